@@ -1,0 +1,1 @@
+// Suites: macs, pads, tags and sealed lines.
