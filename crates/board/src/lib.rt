@@ -1,0 +1,3 @@
+// Boards: lines of nine words, a register of 32 words, and the power to write them.
+pub mod board;
+pub mod types;
