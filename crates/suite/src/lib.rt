@@ -1,3 +1,4 @@
 // Suites: macs, pads, tags and sealed lines.
 pub mod sealing;
 pub mod suite;
+mod message;
