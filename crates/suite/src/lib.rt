@@ -1,4 +1,5 @@
 // Suites: macs, pads, tags and sealed lines.
+pub mod cmac_suite;
 pub mod sip_suite;
 pub mod suite;
 pub mod sealing;
