@@ -3,8 +3,7 @@ use Prim.Native.Nat.{ℕ, _<_, _≤_}
 use mathlib.Core.Path.{_≡_}
 use mathlib.Core.Bool.{Bool, true, false}
 use lib.ListN.{length, set}
-use Rattle.board.specs.Meaning.{Meaning, Power}
-use Rattle.board.specs.Piles.{lesser}
+use Rattle.board.specs.Meaning.{Meaning, Power, lesser}
 use Rattle.board.specs.declared.types.Line.{Line}
 use Rattle.std.specs.declared.option.Option.{Option}
 
