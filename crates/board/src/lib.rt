@@ -5,3 +5,6 @@ pub mod memory;
 pub mod tamper;
 pub mod types;
 pub mod window;
+
+#[cfg(test)]
+mod tests;

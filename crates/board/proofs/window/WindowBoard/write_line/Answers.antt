@@ -1,14 +1,16 @@
 use mathlib.Core.Path.{refl}
+use Rattle.board.specs.Piles.{windowed}
 use Rattle.board.proofs.Windows.{window-absent, window-writes, window-written}
 use Rattle.board.proofs.window.WindowBoard.write_line.Needs as need
 
 pub returns-in-rest : need.returns-in-rest
 returns-in-rest g c =
     let s = c .args .self .now in
+    let m = g .B·Board .meaning (s .below) in
     record {
-      meaning = (window-absent (g .B·Board .meaning (s .below)) (s .start) (s .len) (c .args .at) (c .count .result) (c .count .ensures) (c .in-rest .ensures tt), refl);
-      below = refl;
-      frame = (refl, refl);
+      meaning = (window-absent m (s .start) (s .len) (c .args .at) (c .count .result) (c .count .ensures) (c .in-rest .ensures tt), refl {a = windowed m (s .start) (s .len)});
+      below = refl {a = m};
+      frame = (refl {a = s .start}, refl {a = s .len});
     }
 
 pub returns : need.returns
@@ -19,5 +21,5 @@ returns g c =
     record {
       meaning = window-writes m (s .start) (s .len) (c .args .at) (c .in-Some .k) (c .count .result) (c .count .ensures) (c .in-Some .ensures tt) (c .args .line) (c .write-line .result) m′ (c .write-line .ensures);
       below = window-written m (s .start) (s .len) (c .args .at) (c .in-Some .k) (c .count .result) (c .count .ensures) (c .in-Some .ensures tt) (c .args .line) (c .write-line .result) m′ (c .write-line .ensures);
-      frame = (refl, refl);
+      frame = (refl {a = s .start}, refl {a = s .len});
     }
