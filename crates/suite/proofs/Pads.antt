@@ -35,11 +35,11 @@ two-more f ps j x y n h old e g k lt =
     ⊎-elim
     (λ (s : k ≡ 2 * j + 1). ap (λ z. getD (set (set ps (2 * j) x) (2 * j + 1) y) z 0) s ∙ getD-set-same (set ps (2 * j) x) (2 * j + 1) y 0 (omega (arith, length-set ps (2 * j) x)) ∙ g ∙ ap f (sym s))
     (λ (o : k ≢ 2 * j + 1).
-      getD-set-other (set ps (2 * j) x) (2 * j + 1) k y 0 o
-      ∙ ⊎-elim
-      (λ (s : k ≡ 2 * j). ap (λ z. getD (set ps (2 * j) x) z 0) s ∙ getD-set-same ps (2 * j) x 0 (omega arith) ∙ e ∙ ap f (sym s))
-      (λ (q : k ≢ 2 * j). getD-set-other ps (2 * j) k x 0 q ∙ old k (omega (arith, o, q)))
-      (cases-eq k (2 * j)))
+    getD-set-other (set ps (2 * j) x) (2 * j + 1) k y 0 o
+    ∙ ⊎-elim
+    (λ (s : k ≡ 2 * j). ap (λ z. getD (set ps (2 * j) x) z 0) s ∙ getD-set-same ps (2 * j) x 0 (omega arith) ∙ e ∙ ap f (sym s))
+    (λ (q : k ≢ 2 * j). getD-set-other ps (2 * j) k x 0 q ∙ old k (omega (arith, o, q)))
+    (cases-eq k (2 * j)))
     (cases-eq k (2 * j + 1))
 
 -- Eight zeros as a pad.

@@ -15,7 +15,9 @@ impl CmacSuite {
     pub fn new(mac_key: &[u8; 16]) -> CmacSuite
         ensures { λ r. ⌜ r .cmac .aes .key ≡ now («mac_key» .entry) ⌝ }
     {
-        CmacSuite { cmac: CmacKey::new(mac_key) }
+        CmacSuite {
+            cmac: CmacKey::new(mac_key),
+        }
     }
 }
 

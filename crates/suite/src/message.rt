@@ -30,7 +30,24 @@ pub(crate) fn pad_block(at: u64, counter: u64, part: u8) -> [u8; 16]
 {
     let [a0, a1, a2, a3, a4, a5, a6, a7] = at.to_le_bytes();
     let [c0, c1, c2, c3, c4, c5, _, _] = counter.to_le_bytes();
-    [a0, a1, a2, a3, a4, a5, a6, a7, c0, c1, c2, c3, c4, c5, part, 0]
+    [
+        a0,
+        a1,
+        a2,
+        a3,
+        a4,
+        a5,
+        a6,
+        a7,
+        c0,
+        c1,
+        c2,
+        c3,
+        c4,
+        c5,
+        part,
+        0,
+    ]
 }
 
 // The word of eight bytes of a block, lowest byte first.

@@ -19,7 +19,10 @@ impl SipSuite {
         ensures mac { λ r. ⌜ r .hash .bytes ≡ now («mac_key» .entry) ⌝ }
         ensures pad { λ r. ⌜ r .cipher .key ≡ now («pad_key» .entry) ⌝ }
     {
-        SipSuite { hash: SipKey::new(mac_key), cipher: Aes128::new(pad_key) }
+        SipSuite {
+            hash: SipKey::new(mac_key),
+            cipher: Aes128::new(pad_key),
+        }
     }
 }
 
