@@ -14,7 +14,7 @@ use Rattle.machine.specs.Plans.{View, Run, new-register, write-call, read-call
 abbrev pub plain : ℕ → Scheme
 plain n = record { number = 2; mac = λ a ws c. n; pad = λ a c i. 0 }
 
--- A board of two levels just made and brought up.
+-- A board of two levels just formatted and brought up.
 abbrev pub formatted-2 : Scheme → View
 formatted-2 S = record { memory = λ a. line-at (eight-ary 2) S a 0 (λ i. 0); register = new-register S 2; table = λ p. none }
 

@@ -80,7 +80,7 @@ Journal-power-lost w r none = ⊥
 Journal-power-lost w r (some n) = (r ≡ fault power-lost (n .at)) × (w .board .power ≡ writes 0)
 
 module _ (S : Scheme) where
-  -- A fault is that of the line in hand: the next to be committed, or the one just noted.
+  -- A fault is that of the line in hand: the next to be committed, or the one just journaled.
   pub data In-hand (T : Shape) (w′ : World) (new left-over l′ : Log) : Fault → Type 0 where
     limit-reached : {q : ℕ} → to-come left-over ≡ some q → counter-in l′ q ≡ T .limit q → In-hand T w′ new left-over l′ (fault at-limit q)
     before-register : {q : ℕ} → to-come left-over ≡ some q → w′ .board .power ≡ writes 0 → In-hand T w′ new left-over l′ (fault power-lost q)

@@ -146,6 +146,10 @@ abbrev pub recovered-chip : ℕ → Outcome Table → Chip
 recovered-chip cap (ok t) = opened cap t
 recovered-chip cap (err r) = latched r
 
+-- Of a list of writes, the first k were done.
+abbrev pub Did : BoardState → List Write → ℕ → BoardState → Type 0
+Did b ws k b′ = (p : Power) × Cut (b .power) (length ws) k p × (b′ ≡ after b k ws p)
+
 -- A call on an open board that was planned as the run r: some k of its writes were done.
 abbrev pub Ran : ℕ → Run → BoardState → Log → Answer → World → Log → Type 0
 Ran cap r b l x w′ l′ =

@@ -23,7 +23,7 @@ No-reuse (e ∷ l) = ((b : Body) → In-log l (e .at) (e .counter) b → ⊥) ×
 abbrev pub Stands : Shape → Scheme → Log → (ℕ → Line) → ℕ → Type 0
 Stands T S l m q = m q ≡ line-at T S q (counter-in l q) (body-in l q)
 
--- What a read of line a rests on: the line, and its ancestors below the nearest marked one.
+-- What a read of line a rests on: the line, and its ancestors below the nearest dirty one.
 pub data Rests (T : Shape) (dirty : ℕ → Bool) (a : ℕ) : ℕ → Type 0 where
   itself : Rests T dirty a a
   above : {q : ℕ} → Rests T dirty a q → T .parent q < T .lines → dirty (T .parent q) ≡ false → Rests T dirty a (T .parent q)
@@ -71,7 +71,7 @@ module _ (shapes : ℕ → Shape) (S : Scheme) where
     pub accepts : a < shape-of shapes (w .board) .data-lines → ((b : Body) × (x ≡ body-is b)) ↔ ((q : ℕ) → Rests (shape-of shapes (w .board)) (w .board .register .dirty) a q → Stands (shape-of shapes (w .board)) S l (w .board .memory) q)
     pub refuses : a < shape-of shapes (w .board) .data-lines → (r : Fault) (n : ℕ) → x ≡ refused r n → (r .cause ≡ corrupt) × Rests (shape-of shapes (w .board)) (w .board .register .dirty) a (r .place) × (Stands (shape-of shapes (w .board)) S l (w .board .memory) (r .place) → ⊥)
 
-  -- A write: done is committed, refused is committed exactly if power failed after its note; other bodies stay; refused only with reason; commits are counted.
+  -- A write: done is committed, refused is committed exactly if power was lost after its journal; other bodies stay; refused only with reason; commits are counted.
   pub record Write-law (w : World) (l : Log) (a : ℕ) (b : Body) (x : Answer) (w′ : World) (l′ : Log) : Type 0 where
     pub counters : Counted l x l′
     pub commits : (n : ℕ) → x ≡ done n → Commits-next l l′ a b × Stands (shape-of shapes (w .board)) S l′ (w′ .board .memory) a
