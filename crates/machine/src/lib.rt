@@ -1,7 +1,9 @@
 // The controller by its definitions, and what holds in every history of a board.
+pub mod counter;
 pub mod register;
 pub mod types;
 pub mod validity;
+
 ghost use Rattle.machine.specs.Promises.{History-holds};
 ghost use Rattle.machine.specs.Cases.{Worked-cases};
 

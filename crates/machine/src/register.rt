@@ -72,7 +72,13 @@ fn journal_in(words: &[u64; 32]) -> Option<Journal>
     if at == NO_ADDRESS {
         return None;
     }
-    Some(Journal { at, line: Line { body: body_in(words), tag: words[21] } })
+    Some(Journal {
+        at,
+        line: Line {
+            body: body_in(words),
+            tag: words[21],
+        },
+    })
 }
 
 // The words with a journal in its place.

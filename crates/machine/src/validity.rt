@@ -8,11 +8,9 @@ ghost use Rattle.machine.specs.Layout.{eight-ary, lines-of, every, counter-lim
 ghost use Rattle.machine.specs.History.{journal-in, roots-valid, map-valid, register-valid};
 ghost use Rattle.machine.specs.Words.{row, bit};
 ghost use Rattle.machine.specs.Encoding.{journal-meant, register-meant};
+use crate::counter::LIMIT;
 use crate::types::Journal;
 use crate::types::Register;
-
-// The largest counter.
-const LIMIT: u64 = 281_474_976_710_655;
 
 // Data lines and lines of 1 to 4 levels.
 fn sizes(levels: u64) -> (u64, u64)

@@ -20,8 +20,8 @@ returns c =
     let l : length (c .put-dirty .result) ≡ 32 = search needs in
     let h : (j : Entry) → f .journal ≡ Some j → length (j .line .body) ≡ 8 = λ j e. subst Eight-words e (c .put-journal-with-journal .ensures .long) in
     let r = c .put-dirty .ensures
-            ∙ ap (λ w. take 22 w ++ (f .dirty ++ drop 32 w)) (c .put-journal-with-journal .ensures .is ∙ ap (λ w. with-journal w (f .journal)) (c .put-roots-with-roots .ensures))
-            ∙ put-is f a h in
+    ∙ ap (λ w. take 22 w ++ (f .dirty ++ drop 32 w)) (c .put-journal-with-journal .ensures .is ∙ ap (λ w. with-journal w (f .journal)) (c .put-roots-with-roots .ensures))
+    ∙ put-is f a h in
     record {
       is = r;
       back = λ n. ap decoded r ∙ back f a b h n;
