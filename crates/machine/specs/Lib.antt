@@ -1,0 +1,11 @@
+pub mod Layout
+pub mod Store
+pub mod Faults
+pub mod Plans
+pub mod History
+pub mod Laws
+pub mod CommitLaws
+pub mod Promises
+pub mod Words
+pub mod Encoding
+pub mod Cases
