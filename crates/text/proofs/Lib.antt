@@ -1,0 +1,4 @@
+pub mod Decimals
+pub mod Cuts
+pub mod Pieces
+pub mod Hexes
