@@ -20,10 +20,10 @@ stops-at b t n found (inr h) = inl (drop-all n t h)
 
 pub cut-at : (b : ℕ) (t : List ℕ) (n : ℕ) → n ≤ length t → ((k : ℕ) → k < n → getD t k 0 ≡ b → ⊥) → (n < length t → getD t n 0 ≡ b) → (n < length t) ⊎ (length t ≤ n) → Cut b t (take n t) (drop n t)
 cut-at b t n within before found which = record {
-    split = sym (take-append-drop n t);
-    lacks = λ i h e. let k : i < n = omega (arith, length-take-le n t within) in before i k (sym (getD-take n t i 0 k) ∙ e);
-    stops = stops-at b t n found which;
-  }
+  split = sym (take-append-drop n t);
+  lacks = λ i h e. let k : i < n = omega (arith, length-take-le n t within) in before i k (sym (getD-take n t i 0 k) ∙ e);
+  stops = stops-at b t n found which;
+}
 
 -- a text that lacks b does not begin with it
 no-head : (b c : ℕ) (cs : List ℕ) → Lacks b (c ∷ cs) → c ≡ b → ⊥

@@ -2,3 +2,4 @@ pub mod Decimals
 pub mod Cuts
 pub mod Pieces
 pub mod Hexes
+pub mod Rows

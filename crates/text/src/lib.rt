@@ -6,7 +6,10 @@ ghost use lib.ListN.{length, getD};
 ghost use Rattle.std.specs.Options.{Cases as BySome, mapped};
 ghost use Rattle.text.specs.Spelling.{Reads, Behind, Digit, then-digit, Decimal, Spaced, Numbers, Hex, HexByte, Key, Keys, FirstLine};
 ghost use Rattle.text.specs.Taking.{Stops, Any, Cut, Takes};
+
 pub mod types;
+pub mod words;
+
 use types::KeyPair;
 
 // The number with one more digit behind it, where that is a digit and the number fits.
@@ -125,7 +128,11 @@ pub fn keys(text: &[u8]) -> Option<KeyPair>
 {
     let (mac, rest) = next_key(text)?;
     let (pad, rest) = next_key(rest)?;
-    if rest.is_empty() { Some(KeyPair { mac, pad }) } else { None }
+    if rest.is_empty() {
+        Some(KeyPair { mac, pad })
+    } else {
+        None
+    }
 }
 
 // The first line and the text behind it, or none at the end of the text.

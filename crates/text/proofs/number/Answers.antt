@@ -21,8 +21,8 @@ loop-byte-again c =
 
 pub returns : need.returns
 returns c = record {
-    digits = λ i h. c .loop-byte .inv .1 i (omega arith);
-    some = search needs;
-    value = read-all (c .args .text .now) (c .loop-byte .byte-index) _ (omega arith) (c .loop-byte .inv .0);
-    fits = c .loop-byte .inv .2;
-  }
+  digits = λ i h. c .loop-byte .inv .1 i (omega arith);
+  some = search needs;
+  value = read-all (c .args .text .now) (c .loop-byte .byte-index) _ (omega arith) (c .loop-byte .inv .0);
+  fits = c .loop-byte .inv .2;
+}
