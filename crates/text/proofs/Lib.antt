@@ -3,3 +3,4 @@ pub mod Cuts
 pub mod Pieces
 pub mod Hexes
 pub mod Rows
+pub mod Readers

@@ -6,6 +6,7 @@ use mathlib.Core.List.{List, [], _∷_, _++_}
 use Prim.Native.Nat.{ℕ, _+_, _*_, _-_, _^_, _<_, _≤_}
 use lib.ListN.{length, getD, drop}
 use lib.Dec.{eqb}
+use lib.Chars.{codes}
 use Rattle.std.specs.declared.option.Option.{Option}
 use Rattle.std.specs.declared.option.Option.the-variants.{Some, None}
 use Rattle.text.specs.declared.types.KeyPair.{KeyPair}
@@ -18,6 +19,14 @@ Reads {A} Spells t None = (a : A) → Spells t a → ⊥
 -- What stands behind a prefix.
 abbrev pub Behind : List ℕ → List ℕ → List ℕ → Type 0
 Behind p t rest = t ≡ p ++ rest
+
+-- The first byte, and what follows it.
+abbrev pub Begins : List ℕ → ℕ × List ℕ → Type 0
+Begins t p = t ≡ p .0 ∷ p .1
+
+-- A value behind a prefix.
+abbrev pub After : {A : Type 0} → List ℕ → (List ℕ → A → Type 0) → List ℕ → A → Type 0
+After p Spells t a = (u : List ℕ) × (t ≡ p ++ u) × Spells u a
 
 -- A text that is the texts of some values one after another, nothing between them.
 abbrev pub Each : {A : Type 0} → (List ℕ → A → Type 0) → List ℕ → List A → Type 0
@@ -46,7 +55,7 @@ pub record Decimal (ds : List ℕ) (n : ℕ) : Type 0 where
 
 -- One space and a number.
 abbrev pub Spaced : List ℕ → ℕ → Type 0
-Spaced t n = (ds : List ℕ) × (t ≡ 32 ∷ ds) × Decimal ds n
+Spaced = After (codes " ") Decimal
 
 -- So many numbers, each after one space.
 pub record Numbers (count : ℕ) (t : List ℕ) (ns : List ℕ) : Type 0 where

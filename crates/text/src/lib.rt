@@ -4,7 +4,7 @@ ghost use mathlib.Core.List.{List, [], _∷_, _++_};
 ghost use Prim.Native.Nat.{ℕ, _^_, _<_, _≤_};
 ghost use lib.ListN.{length, getD};
 ghost use Rattle.std.specs.Options.{Cases as BySome, mapped};
-ghost use Rattle.text.specs.Spelling.{Reads, Behind, Digit, then-digit, Decimal, Spaced, Numbers, Hex, HexByte, Key, Keys, FirstLine};
+ghost use Rattle.text.specs.Spelling.{Reads, Behind, Begins, Digit, then-digit, Decimal, Spaced, Numbers, Hex, HexByte, Key, Keys, FirstLine};
 ghost use Rattle.text.specs.Taking.{Stops, Any, Cut, Takes};
 
 pub mod types;
@@ -67,6 +67,14 @@ pub fn after<'a>(text: &'a [u8], prefix: &[u8]) -> Option<&'a [u8]>
     ensures { λ r. ⌜ Reads (Behind (now (prefix .entry))) (now (text .entry)) (mapped now r) ⌝ }
 {
     text.strip_prefix(prefix)
+}
+
+// The first byte as a character, and what follows it.
+pub fn first(text: &[u8]) -> Option<(char, &[u8])>
+    ensures { λ r. ⌜ Reads Begins (now (text .entry)) (mapped (λ p. (p .0, p .1 .now)) r) ⌝ }
+{
+    let (byte, rest) = text.split_first()?;
+    Some((char::from(*byte), rest))
 }
 
 // The text in two: up to the first such byte, and from it on.
