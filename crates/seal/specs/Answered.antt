@@ -72,3 +72,7 @@ Keyed s (l ∷ ls) out = (r : Option KeyPair) × Reads KeyLine l r × Cases r (o
 abbrev pub Printed : List (List ℕ) → List ℕ → Type 0
 Printed [] out = out ≡ bad 1
 Printed (l ∷ ls) out = (r : Option Known) × Reads SuiteLine l r × Cases r (out ≡ bad 1) (λ s. Keyed s ls out)
+
+-- Bytes of this kind were added to a text.
+abbrev pub Adds : (List ℕ → Type 0) → List ℕ → List ℕ → Type 0
+Adds P before after = (added : List ℕ) × (after ≡ before ++ added) × P added

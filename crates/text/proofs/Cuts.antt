@@ -8,7 +8,7 @@ use native.Mathlib.Omega.{arith}
 use lib.Dec.{eqb}
 use lib.ListN.{length, getD, take, drop}
 use borrow.Author.Needs.{needs}
-use Rattle.std.proofs.shelf.Lists.{drop-more, drop-all, take-append-drop, getD-take, length-take-le, length-push, drop-at}
+use Rattle.std.proofs.shelf.Lists.{drop-more, drop-all, take-append-drop, getD-take, length-take-le, length-push, length-drop, drop-at}
 use Rattle.text.specs.Spelling.{Digit, Decimal, before-lines, lines-of, FirstLine}
 use Rattle.text.specs.Taking.{Stops, Lacks, Cut}
 use Rattle.std.specs.declared.option.Option.the-variants.{Some, None}
@@ -80,3 +80,8 @@ line-whole t [] r e f n w = absurd (n (e ∙ f))
 line-whole t (c ∷ l) r e f n w =
     let g : t ≡ c ∷ l = e ∙ ap (λ u. (c ∷ l) ++ u) f ∙ append-nil (c ∷ l) in
     (ap lines-of g ∙ line-last c l w ∙ ap (λ u. (c ∷ l) ∷ lines-of u) (sym f), f ∙ sym (drop-all (length (c ∷ l) + 1) t (omega (arith, ap length g))))
+
+-- what is behind a line is shorter
+pub line-shorter : (t l b : List ℕ) → FirstLine t (Some (l, b)) → length b < length t
+line-shorter [] l b h = let e = h .0 in let z : _≡_ {A = ℕ} 0 1 = cc in omega arith
+line-shorter (c ∷ t) l b h = omega (arith, ap length (h .1), length-drop (length l + 1) (c ∷ t))
