@@ -32,8 +32,7 @@ module _ (S : Scheme) (t : List ℕ) where
       -- one item more
       pub rows-more : (i : Item) (a : Answer) (p : List ℕ) → ItemLine l i → Answered S i a → p ≡ o ++ (answer-text a ++ (10 ∷ [])) → So-far b (n + 1) before p
       rows-more i a p h w e =
-          let row = answer-text a ++ (10 ∷ []) in
-          (
+          let row = answer-text a ++ (10 ∷ []) in (
             k .0 ++ row,
             e ∙ ap (λ (x : List ℕ). x ++ row) (k .1) ∙ append-assoc before (k .0) row,
             λ more q. subst (Rows S 3 (lines-of t)) (sym (append-assoc (k .0) row more)) (k .2 (row ++ more) (subst (λ (ls : List (List ℕ)). Rows S n ls (row ++ more)) (sym (f .0)) (Some i, h, (a, more, w, append-assoc (answer-text a) (10 ∷ []) more, q)))),

@@ -10,7 +10,10 @@ use Rattle.std.specs.declared.option.Option.{Option}
 use Rattle.suite.specs.Scheme.{Body, Line, Scheme, data-line, node-line}
 use Rattle.suite.specs.Words.{row as words-in, line-in, open-data, open-node}
 use Rattle.suite.specs.Suites.{sip-scheme, cmac-scheme}
-use Rattle.text.specs.Spelling.{Reads}
+use Rattle.std.specs.declared.result.Result.{Result}
+use Rattle.std.specs.declared.result.Result.the-variants.{Ok, Err}
+use denote.Ref.{RefT}
+use Rattle.text.specs.Spelling.{Reads, lines-of}
 use Rattle.text.specs.Writing.{row}
 use Rattle.text.specs.declared.types.KeyPair.{KeyPair}
 use Rattle.seal.specs.Items.{ItemLine, SuiteLine, KeyLine}
@@ -72,6 +75,11 @@ Keyed s (l ∷ ls) out = (r : Option KeyPair) × Reads KeyLine l r × Cases r (o
 abbrev pub Printed : List (List ℕ) → List ℕ → Type 0
 Printed [] out = out ≡ bad 1
 Printed (l ∷ ls) out = (r : Option Known) × Reads SuiteLine l r × Cases r (out ≡ bad 1) (λ s. Keyed s ls out)
+
+-- What the header says: what is printed for the lines behind it is printed for all, or a line of it is bad.
+abbrev pub HeaderRead : List (List ℕ) → Result (Known × KeyPair × RefT (List ℕ)) ℕ → Type 0
+HeaderRead ls (Ok h) = (out : List ℕ) → Rows (scheme-of (h .0) (h .1)) 3 (lines-of (h .2 .now)) out → Printed ls out
+HeaderRead ls (Err n) = Printed ls (bad n)
 
 -- Bytes of this kind were added to a text.
 abbrev pub Adds : (List ℕ → Type 0) → List ℕ → List ℕ → Type 0

@@ -18,10 +18,9 @@ loop-line-less g c = line-shorter _ _ _ (c .in-Some .ensures tt)
 
 pub loop-line-again : need.loop-line-again
 loop-line-again g c =
-    let shorter : length (c .in-Some .behind .now) < length (c .loop-line .rest .now) = line-shorter _ _ _ (c .in-Some .ensures tt) in
-    (
+    let shorter : length (c .in-Some .behind .now) < length (c .loop-line .rest .now) = line-shorter _ _ _ (c .in-Some .ensures tt) in (
       rows-more (g .S·Suite .scheme (c .args .suite .now)) (c .args .text .now) (c .loop-line .rest .now) (c .loop-line .number) (string-bytes (c .args .out .now)) (string-bytes (c .loop-line .out)) (c .loop-line .inv .0) _ _ (c .in-Some .ensures tt) _ _ _ (c .in-Some-read-item .ensures tt) (c .answer-reply .ensures) (c .in-Continue-writeln .ensures tt .bytes),
-      omega (arith, c .loop-line .inv .1)
+      omega (arith, c .loop-line .inv .1),
     )
 
 pub returns : need.returns
