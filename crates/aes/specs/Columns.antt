@@ -52,7 +52,8 @@ shifted-by f s = record {
   c0 = rows-of f (s .c0) (s .c1) (s .c2) (s .c3);
   c1 = rows-of f (s .c1) (s .c2) (s .c3) (s .c0);
   c2 = rows-of f (s .c2) (s .c3) (s .c0) (s .c1);
-  c3 = rows-of f (s .c3) (s .c0) (s .c1) (s .c2) }
+  c3 = rows-of f (s .c3) (s .c0) (s .c1) (s .c2);
+}
 
 -- The columns through the S-box, shifted and mixed.
 abbrev pub mixed-columns : Columns → Columns

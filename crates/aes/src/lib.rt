@@ -24,7 +24,10 @@ impl Aes128 {
     pub fn new(key: &[u8; 16]) -> Aes128
         ensures { λ r. ⌜ r .key ≡ now (key .entry) ⌝ }
     {
-        Aes128 { key: *key, rounds: expand(key) }
+        Aes128 {
+            key: *key,
+            rounds: expand(key),
+        }
     }
 
     // Round key i + 1.
@@ -50,6 +53,8 @@ impl Aes128 {
     pub fn encrypt(&self, block: &[u8; 16]) -> [u8; 16]
         ensures { λ r. ⌜ r ≡ aes128 (now (self .entry) .key) (now (block .entry)) ⌝ }
     {
-        self.nine_rounds(block).last_round(self.round_key(9)).store()
+        self.nine_rounds(block)
+            .last_round(self.round_key(9))
+            .store()
     }
 }

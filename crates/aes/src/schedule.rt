@@ -1,6 +1,7 @@
 // The key expansion.
 use crate::columns::Columns;
-use crate::field::{double, sub_byte};
+use crate::field::double;
+use crate::field::sub_byte;
 ghost use mathlib.Core.Path.{_≡_};
 ghost use mathlib.Core.List.{map};
 ghost use Rattle.aes.specs.Aes.{next-key, round-keys};

@@ -7,6 +7,7 @@ mod tests {
     use std::test::*;
 
     const EXAMPLE_KEY: u128 = 0x2b7e151628aed2a6abf7158809cf4f3c;
+
     const COUNTING_KEY: u128 = 0x000102030405060708090a0b0c0d0e0f;
 
     // FIPS 197, appendices B and C.1.
@@ -24,16 +25,88 @@ mod tests {
     #[test]
     fn cmac_tags() -> Result<(), Fail> {
         let message = [
-            0x6b, 0xc1, 0xbe, 0xe2, 0x2e, 0x40, 0x9f, 0x96, 0xe9, 0x3d, 0x7e, 0x11, 0x73, 0x93, 0x17, 0x2a,
-            0xae, 0x2d, 0x8a, 0x57, 0x1e, 0x03, 0xac, 0x9c, 0x9e, 0xb7, 0x6f, 0xac, 0x45, 0xaf, 0x8e, 0x51,
-            0x30, 0xc8, 0x1c, 0x46, 0xa3, 0x5c, 0xe4, 0x11, 0xe5, 0xfb, 0xc1, 0x19, 0x1a, 0x0a, 0x52, 0xef,
-            0xf6, 0x9f, 0x24, 0x45, 0xdf, 0x4f, 0x9b, 0x17, 0xad, 0x2b, 0x41, 0x7b, 0xe6, 0x6c, 0x37, 0x10,
+            0x6b,
+            0xc1,
+            0xbe,
+            0xe2,
+            0x2e,
+            0x40,
+            0x9f,
+            0x96,
+            0xe9,
+            0x3d,
+            0x7e,
+            0x11,
+            0x73,
+            0x93,
+            0x17,
+            0x2a,
+            0xae,
+            0x2d,
+            0x8a,
+            0x57,
+            0x1e,
+            0x03,
+            0xac,
+            0x9c,
+            0x9e,
+            0xb7,
+            0x6f,
+            0xac,
+            0x45,
+            0xaf,
+            0x8e,
+            0x51,
+            0x30,
+            0xc8,
+            0x1c,
+            0x46,
+            0xa3,
+            0x5c,
+            0xe4,
+            0x11,
+            0xe5,
+            0xfb,
+            0xc1,
+            0x19,
+            0x1a,
+            0x0a,
+            0x52,
+            0xef,
+            0xf6,
+            0x9f,
+            0x24,
+            0x45,
+            0xdf,
+            0x4f,
+            0x9b,
+            0x17,
+            0xad,
+            0x2b,
+            0x41,
+            0x7b,
+            0xe6,
+            0x6c,
+            0x37,
+            0x10,
         ];
         let key = CmacKey::new(&EXAMPLE_KEY.to_be_bytes());
-        check_eq(u128::from_be_bytes(key.tag(&message[0..0])), 0xbb1d6929e95937287fa37d129b756746)?;
-        check_eq(u128::from_be_bytes(key.tag(&message[0..16])), 0x070a16b46b4d4144f79bdd9dd04a287c)?;
-        check_eq(u128::from_be_bytes(key.tag(&message[0..40])), 0xdfa66747de9ae63030ca32611497c827)?;
-        check_eq(u128::from_be_bytes(key.tag(&message)), 0x51f0bebf7e3b9d92fc49741779363cfe)
+        check_eq(
+            u128::from_be_bytes(key.tag(&message[0..0])),
+            0xbb1d6929e95937287fa37d129b756746,
+        )?;
+        check_eq(
+            u128::from_be_bytes(key.tag(&message[0..16])),
+            0x070a16b46b4d4144f79bdd9dd04a287c,
+        )?;
+        check_eq(
+            u128::from_be_bytes(key.tag(&message[0..40])),
+            0xdfa66747de9ae63030ca32611497c827,
+        )?;
+        check_eq(
+            u128::from_be_bytes(key.tag(&message)),
+            0x51f0bebf7e3b9d92fc49741779363cfe,
+        )
     }
 
     // The bytes 0 to 63.
