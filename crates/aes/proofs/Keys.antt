@@ -20,7 +20,7 @@ rcon-more i = rw add-one refl
 
 pub round-key-more : (key : List ℕ) (i : ℕ) → round-key key (i + 1) ≡ next-key (rcon i) (round-key key i)
 unfolding round-key
-round-key-more key i = rw add-one refl
+round-key-more key i = ap (round-key key) (add-one i)
 
 -- One round key more.
 pub keys-more : (key : List ℕ) (ks : List Columns) (i : ℕ) (x : Columns) → i < length ks → unpack x ≡ round-key key (i + 1) → ((j : ℕ) → j < i → getD (map unpack ks) j [] ≡ round-key key (j + 1)) → (j : ℕ) → j < i + 1 → getD (map unpack (set ks i x)) j [] ≡ round-key key (j + 1)
