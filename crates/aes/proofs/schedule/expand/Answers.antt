@@ -5,7 +5,7 @@ use borrow.Author.Needs.{needs}
 use Rattle.std.proofs.shelf.Lists.{length-set}
 use Rattle.aes.specs.Aes.{round-key, rcon}
 use Rattle.aes.proofs.Keys.{rcon-more, round-key-more, keys-more, keys-all}
-use Rattle.aes.proofs.Aes128.new.Needs as need
+use Rattle.aes.proofs.schedule.expand.Needs as need
 
 pub loop-i-holds : need.loop-i-holds
 unfolding round-key rcon
@@ -17,5 +17,5 @@ loop-i-again c =
     let e : c .next-key-next .result ≡ round-key (c .args .key .now) (i + 1) = search (needs, round-key-more) in
     (simp length-set (c .loop-i .inv .0), search (needs, rcon-more), e, keys-more (c .args .key .now) (c .loop-i .rounds) i (c .load .result) (omega (arith, c .loop-i .inv .0)) (c .load .ensures ∙ e) (c .loop-i .inv .3))
 
-pub ghost-result : need.ghost-result
-ghost-result c = (keys-all (c .args .key .now) (c .loop-i .rounds) (c .loop-i .i) (c .loop-i .inv .0) (omega arith) (c .loop-i .inv .3), tt)
+pub returns : need.returns
+returns c = keys-all (c .args .key .now) (c .loop-i .rounds) (c .loop-i .i) (c .loop-i .inv .0) (omega arith) (c .loop-i .inv .3)
