@@ -15,7 +15,7 @@ use Rattle.machine.specs.Store.{Log}
 use Rattle.machine.specs.Faults.{Fault}
 use Rattle.machine.specs.Plans.{Slot, Table, is-dirty, slot-counters, View, Run, stay, chain, and-then, commit, overdue, evict-now, evict-at, evict, dirty-count, evict-lowest, evict-until, make-room, evict-overdue, write-at, flush-call}
 use Rattle.machine.specs.History.{counter-in}
-use Rattle.machine.specs.CommitLaws.{pending-in, dirty-in, counters-in, with-next, Evicted, alone, parent-first, Evicted-until, enough, lowest-first, Written, under-root, leaf-dirty, leaf-not, leaf-overdue, to-come}
+use Rattle.machine.specs.CommitLaws.{pending-in, dirty-in, counters-in, with-next, Evicted, alone, parent-first, Evicted-until, enough, lowest-first, Written, under-root, leaf-dirty, leaf-clean, leaf-overdue, to-come}
 use Rattle.machine.specs.Plans as plans
 use Rattle.machine.proofs.Invariant.{Durable, Exact, Slots-hold}
 use Rattle.machine.proofs.Basics.{update-same, update-other, some-inj, none≢some, first-none, first-some}
@@ -73,7 +73,7 @@ module _ (shapes : ℕ → Shape) (T : Shape) (L : TreeLaws T) (S : Scheme) wher
     commit-plan = go (commit-goes shapes T L S l v w t a b k own others full roomy bare)
       where
         go : Commits shapes T L S l v w t a b k own others full roomy bare (commit T S v t a b) → Plan (λ j. j ≡ with-next l a b) l v (commit T S v t a b)
-        go (inl (x, e, d, y)) =
+        go (inl (x, e, y)) =
             subst (Plan (λ j. j ≡ with-next l a b) l v) (sym e)
             (record {
               log = l;
@@ -206,7 +206,7 @@ module _ (shapes : ℕ → Shape) (T : Shape) (L : TreeLaws T) (S : Scheme) wher
           let z = slot-pending T S l (v .register) (w .durable) (v .table) (w .slots-hold) (T .parent a) s e in
           plan-stay l v (leaf-dirty j (held-pending T S l (v .register) (w .durable) (v .table) (w .slots-hold) (T .parent a) (ap is-dirty e)) (omega (arith, z, leb-false _ _ f)))
       kept j none e f =
-          plan-map (λ i z. leaf-not j (free-level T S l (v .register) (w .durable) (v .table) (w .slots-hold) (T .parent a) j (ap is-dirty e)) z) (until-plan (cap - 1) (T .lines) l v w (λ q i. absurd (omega arith)))
+          plan-map (λ i z. leaf-clean j (free-level T S l (v .register) (w .durable) (v .table) (w .slots-hold) (T .parent a) j (ap is-dirty e)) z) (until-plan (cap - 1) (T .lines) l v w (λ q i. absurd (omega arith)))
 
       cleared : T .parent a < T .lines → (d : Bool) → overdue (v .table (T .parent a)) ≡ d → Plan Ready l v (and-then (cond d (evict T S v (T .parent a)) (stay v)) roomy)
       cleared j true f =

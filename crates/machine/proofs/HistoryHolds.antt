@@ -15,24 +15,23 @@ use Rattle.machine.specs.Store.{line-at, Register, Log, BoardState, after-writ
 use Rattle.machine.specs.Faults.{fault, not-data}
 use Rattle.machine.specs.Plans.{Table, View, Run, stop, write-at, write-call, flush-call, dirty-count}
 use Rattle.machine.specs.History.{Chip, cold, opened, latched, World, Event, format, bring-up, read, write, flush, shut-down, tamper, recharge, Answer, power-lost-at, after, view-of, counter-in, body-in, shape-of, Ran, Happens, Fair, Replayed, Reached, start, next}
-use Rattle.machine.specs.Laws.{No-reuse, Within}
+use Rattle.machine.specs.Laws.{No-reuse, Unchanged}
 use Rattle.machine.specs.CommitLaws.{Slots-law}
-use Rattle.machine.specs.Promises.{Register-says, Unchanged, Law, Keeps-promises}
+use Rattle.machine.specs.Promises.{Within, Register-says, Law, Keeps-promises, Tree-layouts}
 use Rattle.machine.proofs.Invariant.{Durable, Fine, Slots-hold}
 use Rattle.machine.proofs.Basics.{update-same, update-other}
 use Rattle.machine.proofs.Trails.{Trail, end, Open-holds, Cold-holds, warm-cool, warm-trail, after-writes-all, after-writes-some, once-some, Same-board, register-kept}
 use Rattle.machine.proofs.Runs.{Goes, Node, Wrote, wrote, flush-goes}
 use Rattle.machine.proofs.Cuts.{cut-le}
 use Rattle.machine.proofs.BoardHolds.{Formatted-board, Board-holds, Holds}
-use Rattle.machine.proofs.WriteLaws.{touched, write-law, flush-law}
-use Rattle.machine.proofs.ReadLaws.{read-law, highest}
+use Rattle.machine.proofs.WriteLaws.{touched, write-part, flush-part}
+use Rattle.machine.proofs.ReadLaws.{read-law}
 use Rattle.machine.proofs.Formatting.{format-holds}
 use Rattle.machine.proofs.BringUp.{bring-up-holds}
 use Rattle.machine.proofs.SlotTable.{write-used, until-used}
-use Rattle.machine.proofs.OneCommit.{one-commit}
 use Rattle.machine.proofs.CommitLawHolds.{write-commits, write-beyond, flush-commits}
-use Rattle.machine.proofs.BringUpAnswers.{bring-up-order}
-use Rattle.machine.proofs.FormatOrder.{format-order}
+use Rattle.machine.proofs.BringUpAnswers.{bring-up-law}
+use Rattle.machine.proofs.FormatOrder.{format-law}
 use Rattle.machine.proofs.RegisterSays.{register-says, slots}
 
 module _ (shapes : ℕ → Shape) (S : Scheme) where
@@ -159,7 +158,7 @@ module _ (shapes : ℕ → Shape) (S : Scheme) where
     holds (start w u c) = (subst (λ z. Holds shapes S z (w .board) []) (sym c) (inl (u, refl)), tt)
     holds (next {w} {l} R e x w′ l′ f s) = let H = holds R in keeps (w .chip) (w .board) l (H .0) (H .1) e x w′ l′ f s
 
-    within : (ch : Chip) (b : BoardState) (l : Log) → Holds shapes S ch b l → Within shapes ch b
+    within : (ch : Chip) (b : BoardState) (l : Log) → Holds shapes S ch b l → Within (shape-of shapes b) ch
     within cold b l H = tt
     within (latched r) b l H = tt
     within (opened cap t) b l (s, W, cl, ch, us) = (cl, ch, us)
@@ -183,8 +182,8 @@ module _ (shapes : ℕ → Shape) (S : Scheme) where
 
     -- One event obeys its law.
     obeys : (w : World) (l : Log) (ch : Chip) → Holds shapes S ch (w .board) l → No-reuse l → (e : Event) (x : Answer) (w′ : World) (l′ : Log) → Happens shapes S ch (w .board) l e x w′ l′ → Law shapes S w l ch e x w′ l′
-    obeys w l cold H O (format h) x w′ l′ s = (format-holds shapes S laws h w l H O x w′ l′ s .3, format-order shapes S h w l H x w′ l′ s)
-    obeys w l cold H O (bring-up cap num) x w′ l′ s = (bring-up-holds shapes S laws w l H cap num x w′ l′ s .0 .1, bring-up-order shapes S laws cap num w l H x w′ l′ s)
+    obeys w l cold H O (format h) x w′ l′ s = format-law shapes S h w l H O laws x w′ l′ s
+    obeys w l cold H O (bring-up cap num) x w′ l′ s = bring-up-law shapes S laws cap num w l H x w′ l′ s
     obeys w l cold H O (recharge p) x w′ l′ s = tt
     obeys w l cold H O (read a) x w′ l′ s = tt
     obeys w l cold H O (write a y) x w′ l′ s = tt
@@ -194,9 +193,15 @@ module _ (shapes : ℕ → Shape) (S : Scheme) where
     obeys w l (opened cap t) H O (format h) x w′ l′ s = tt
     obeys w l (opened cap t) H O (bring-up c num) x w′ l′ s = tt
     obeys w l (opened cap t) H O (recharge p) x w′ l′ s = tt
-    obeys w l (opened cap t) (sf, W, cl, ch, us) O (read a) x w′ l′ s = (read-law shapes S w (laws _ (sf .low) (sf .high)) t l W a x (s .0), highest shapes S w (laws _ (sf .low) (sf .high)) t l W a x (s .0), same w l (opened cap t) w′ l′ (s .1) (s .2))
-    obeys w l (opened cap t) (sf, W, cl, ch, us) O (write a y) x w′ l′ s = (write-law shapes S w (laws _ (sf .low) (sf .high)) cap t l W a y x w′ l′ s, one-commit shapes S w (laws _ (sf .low) (sf .high)) cap t l a y x w′ l′ s, record { commits = λ h. write-commits shapes S w (laws _ (sf .low) (sf .high)) cap t l W a y h x w′ l′ s; beyond = λ h. write-beyond shapes S w (laws _ (sf .low) (sf .high)) cap t l W a y h x w′ l′ s })
-    obeys w l (opened cap t) (sf, W, cl, ch, us) O flush x w′ l′ s = (flush-law shapes S w (laws _ (sf .low) (sf .high)) cap t l W x w′ l′ s, flush-commits shapes S w (laws _ (sf .low) (sf .high)) cap t l W x w′ l′ s)
+    obeys w l (opened cap t) (sf, W, cl, ch, us) O (read a) x w′ l′ s = (read-law shapes S w (laws _ (sf .low) (sf .high)) t l W a x (s .0), same w l (opened cap t) w′ l′ (s .1) (s .2))
+    obeys w l (opened cap t) (sf, W, cl, ch, us) O (write a y) x w′ l′ s =
+        let L = laws _ (sf .low) (sf .high) in
+        let z = write-part shapes S w L cap t l W a y x w′ l′ s in
+        record { beyond = λ h. write-beyond shapes S w L cap t l W a y h x w′ l′ s; commits = λ h. write-commits shapes S w L cap t l W a y h x w′ l′ s; committed = z .committed; half = z .half; keeps = z .keeps }
+    obeys w l (opened cap t) (sf, W, cl, ch, us) O flush x w′ l′ s =
+        let L = laws _ (sf .low) (sf .high) in
+        let z = flush-part shapes S w L cap t l W x w′ l′ s in
+        record { commits = flush-commits shapes S w L cap t l W x w′ l′ s; clean = z .clean; keeps = z .keeps }
     obeys w l (opened cap t) H O shut-down x w′ l′ s = (s .0, same w l cold w′ l′ (s .1) (s .2))
     obeys w l (opened cap t) H O (tamper a y) x w′ l′ s = tt
     obeys w l (latched r) H O (format h) x w′ l′ s = tt
@@ -209,5 +214,13 @@ module _ (shapes : ℕ → Shape) (S : Scheme) where
     obeys w l (latched r) H O (tamper a y) x w′ l′ s = tt
 
 -- The theorem, for every family of layouts that obeys the tree laws.
-pub keeps-promises : (shapes : ℕ → Shape) → ((h : ℕ) → 1 ≤ h → h ≤ 4 → TreeLaws (shapes h)) → Keeps-promises shapes
-keeps-promises shapes laws S w l R = let H = holds shapes S laws R in (H .1, within shapes S laws (w .chip) (w .board) l (H .0), says shapes S laws (w .chip) (w .board) l (H .0), slots-say shapes S laws (w .chip) (w .board) l (H .0), λ e x w′ l′ s. obeys shapes S laws w l (w .chip) (H .0) (H .1) e x w′ l′ s)
+pub keeps-promises : (shapes : ℕ → Shape) → Tree-layouts shapes → Keeps-promises shapes
+keeps-promises shapes laws S w l R =
+    let H = holds shapes S laws R in
+    record {
+      no-reuse = H .1;
+      register = says shapes S laws (w .chip) (w .board) l (H .0);
+      slots = slots-say shapes S laws (w .chip) (w .board) l (H .0);
+      within = within shapes S laws (w .chip) (w .board) l (H .0);
+      next = λ e x w′ l′ s. obeys shapes S laws w l (w .chip) (H .0) (H .1) e x w′ l′ s;
+    }

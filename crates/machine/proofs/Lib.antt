@@ -27,10 +27,10 @@ pub mod CorruptPlace
 pub mod BringUpAnswers
 pub mod HistoryHolds
 pub mod EightAry
+pub mod Theorem
 pub mod WorkedCases
 pub mod CutsCompose
 pub mod SlotTable
-pub mod OneCommit
 pub mod Encodings
 pub mod ValidParts
 pub mod Steps

@@ -9,13 +9,13 @@ use native.Mathlib.Omega.{arith}
 use lib.Dec.{ltb, leb, eqb}
 use lib.ListN.{length}
 use Rattle.std.proofs.shelf.Tests.{cases-lt, cases-eq, both-ways, ltb-true, ltb-false, leb-true, leb-false}
-use Rattle.suite.specs.Scheme.{Body, Line, Scheme}
+use Rattle.suite.specs.Scheme.{Body, Scheme}
 use Rattle.machine.specs.Layout.{Shape, TreeLaws, update}
 use Rattle.machine.specs.Store.{Log, Write}
 use Rattle.machine.specs.Faults.{Fault, fault, Outcome, ok, err, corrupt, at-limit}
 use Rattle.machine.specs.Plans.{Slot, Table, is-dirty, slot-counters, View, Run, stay, stop, chain, and-then, counter-at, counter-of, commit, commit-at, commit-under, overdue, evict-now, evict-at, evict, dirty-count, lowest, evict-lowest, evict-until, make-room, evict-overdue, write-at, flush-call}
 use Rattle.machine.specs.History.{counter-in}
-use Rattle.machine.specs.Laws.{Stands, Rests, itself, above}
+use Rattle.machine.specs.Laws.{Way-stands, Stands, Rests, itself, above}
 use Rattle.machine.proofs.Invariant.{Durable, Fine, Exact, Raised, Slots-hold}
 use Rattle.machine.proofs.Basics.{update-same, update-other, some-inj, none≢some, first-none, first-some, sum-zero, term-le}
 use Rattle.machine.proofs.TrustedCounter.{rests-higher, counter-true, counter-refused, inner-parent, depth-next, root-parent}
@@ -43,39 +43,34 @@ then-none r f e = go (r .ends) refl e
     go none p e = (p, e, refl)
 
 module _ (shapes : ℕ → Shape) (T : Shape) (L : TreeLaws T) (S : Scheme) where
-  -- Why a run may be refused, as it stands at its end.
-  abbrev pub Due-at : Log → (ℕ → Line) → Fault → Type 0
-  Due-at l m x = ((x .cause ≡ corrupt) × (x .place < T .lines) × (Stands T S l m (x .place) → ⊥)) ⊎ ((x .cause ≡ at-limit) × (x .place < T .lines) × (counter-in l (x .place) ≡ T .limit (x .place)))
-
   -- Why line a, next to be committed, is not: its counter is at the limit, or the highest of its ancestors that does not stand.
   abbrev pub Reason : Log → View → ℕ → Fault → Type 0
   Reason l v a x =
-      ((x ≡ fault at-limit a) × (counter-in l a ≡ T .limit a))
-      ⊎ ((p : ℕ) × (x ≡ fault corrupt p) × Rests T (v .register .dirty) a p × (p ≡ a → ⊥) × (Stands T S l (v .memory) p → ⊥) × ((u : ℕ) → Rests T (v .register .dirty) p u → (u ≡ p → ⊥) → Stands T S l (v .memory) u))
+      ((x ≡ fault at-limit a) × Way-stands T S l (v .memory) (v .register .dirty) a × (counter-in l a ≡ T .limit a))
+      ⊎ ((p : ℕ) × (x ≡ fault corrupt p) × Rests T (v .register .dirty) a p × (p ≡ a → ⊥) × (Stands T S l (v .memory) p → ⊥) × Way-stands T S l (v .memory) (v .register .dirty) p)
 
-  -- A run is a chain of commits, refused only with reason.
+  -- A run is a chain of commits.
   pub record Goes (Q : ℕ → Type 0) (l : Log) (v : View) (r : Run) : Type 0 where
     pub log : Log
     pub trail : Trail T S Q v l (r .planned) (r .view) log
-    pub why : (x : Fault) → r .ends ≡ some x → Due-at log (r .view .memory) x
 
   pub goes-stay : {Q : ℕ → Type 0} (l : Log) (v : View) → Goes Q l v (stay v)
-  goes-stay l v = record { log = l; trail = end; why = λ x e. absurd (none≢some e) }
+  goes-stay l v = record { log = l; trail = end }
 
-  pub goes-stop : {Q : ℕ → Type 0} (l : Log) (v : View) (x : Fault) → Due-at l (v .memory) x → Goes Q l v (stop v x)
-  goes-stop l v x d = record { log = l; trail = end; why = λ y e. subst (Due-at l (v .memory)) (some-inj e) d }
+  pub goes-stop : {Q : ℕ → Type 0} (l : Log) (v : View) (x : Fault) → Goes Q l v (stop v x)
+  goes-stop l v x = record { log = l; trail = end }
 
   pub goes-then : {Q : ℕ → Type 0} (l : Log) (v : View) (r : Run) (f : View → Run) → (g : Goes Q l v r) → (r .ends ≡ none → Goes Q (g .log) (r .view) (f (r .view))) → Goes Q l v (and-then r f)
   goes-then {Q} l v r f g h = go (r .ends) refl
     where
       go : (o : Option Fault) → r .ends ≡ o → Goes Q l v (chain r o f)
       go (some x) p = g
-      go none p = let k = h p in record { log = k .log; trail = join (g .trail) (k .trail); why = k .why }
+      go none p = let k = h p in record { log = k .log; trail = join (g .trail) (k .trail) }
 
   module _ (l : Log) (v : View) (w : Open-holds shapes T S l v) (t : Table) (a : ℕ) (b : Body) (k : a < T .lines) (own : t a ≡ none) (others : (p : ℕ) → (p ≡ a → ⊥) → t p ≡ v .table p)
       (full : T .data-lines ≤ a → (i : ℕ) → i < T .arity a → b i ≡ counter-in l (T .child a i)) (roomy : Roomy (v .table (T .parent a))) (bare : T .data-lines ≤ a → (i : ℕ) → T .arity a ≤ i → b i ≡ 0) where
     abbrev pub Commits : Run → Type 0
-    Commits r = ((x : Fault) × (r ≡ stop v x) × Due-at l (v .memory) x × Reason l v a x) ⊎ ((r ≡ commit-under T S (v .memory) (v .register) t a b (suc (counter-in l a))) × Legal T S l v t a (suc (counter-in l a)) b)
+    Commits r = ((x : Fault) × (r ≡ stop v x) × Reason l v a x) ⊎ ((r ≡ commit-under T S (v .memory) (v .register) t a b (suc (counter-in l a))) × Legal T S l v t a (suc (counter-in l a)) b)
 
     -- A commit is made, unless the way down is corrupt or the counter is at its limit.
     pub commit-goes : Commits (commit T S v t a b)
@@ -88,7 +83,7 @@ module _ (shapes : ℕ → Shape) (T : Shape) (L : TreeLaws T) (S : Scheme) wher
         go : (z : Outcome ℕ) → counter-at T S v (T .depth (T .parent a)) a ≡ z → Commits (commit-at T S v t a b z)
         go (err x) e =
             let (q, f, r, o, n, y) = counter-refused shapes T L S l v D (T .depth (T .parent a)) a x k refl (λ q _ _. w .slots-hold .exact q) (λ q _. w .fine q) e in
-            inl (x, refl, inl (ap (λ y. y .cause) f, subst (λ z. z < T .lines) (ap (λ y. y .place) (sym f)) (rests-higher L k r .1), λ s. n (subst (Stands T S l (v .memory)) (ap (λ y. y .place) f) s)), inr (q, f, r, λ z. omega (arith, z, o), n, λ u z d. ⊎-elim (λ g. absurd (d g)) (λ g. g) (y u z)))
+            inl (x, refl, inr (q, f, r, λ z. omega (arith, z, o), n, λ u z d. ⊎-elim (λ g. absurd (d g)) (λ g. g) (y u z)))
         go (ok c) e = dec (ltb c (T .limit a)) refl
           where
             tr : (c ≡ counter-in l a) × ((q : ℕ) → Rests T (v .register .dirty) a q → (q ≡ a) ⊎ Stands T S l (v .memory) q)
@@ -104,22 +99,22 @@ module _ (shapes : ℕ → Shape) (T : Shape) (L : TreeLaws T) (S : Scheme) wher
             dec : (y : Bool) → ltb c (T .limit a) ≡ y → Commits (cond y (commit-under T S (v .memory) (v .register) t a b (suc c)) (stop v (fault at-limit a)))
             dec true f =
                 inr (ap (λ n. commit-under T S (v .memory) (v .register) t a b (suc n)) (tr .0), record { here = k; next = refl; young = subst (λ n. n < T .limit a) (tr .0) (ltb-true _ _ f); own = own; others = others; full = full; fits = fits; bare = bare; way = tr .1 })
-            dec false f = inl (fault at-limit a, refl, inr (refl, k, omega (arith, tr .0, ltb-false _ _ f, D .small a k)), inl (refl, omega (arith, tr .0, ltb-false _ _ f, D .small a k)))
+            dec false f = inl (fault at-limit a, refl, inl (refl, λ u z d. ⊎-elim (λ g. absurd (d g)) (λ g. g) (tr .1 u z), omega (arith, tr .0, ltb-false _ _ f, D .small a k)))
 
     -- As a run.
     pub commit-run : {Q : ℕ → Type 0} → Q a → Goes Q l v (commit T S v t a b)
     commit-run {Q} q = go commit-goes
       where
         go : Commits (commit T S v t a b) → Goes Q l v (commit T S v t a b)
-        go (inl (x, e, d, _)) = subst (Goes Q l v) (sym e) (goes-stop l v x d)
-        go (inr (e, g)) = subst (Goes Q l v) (sym e) (record { log = entry a (suc (counter-in l a)) b ∷ l; trail = step t a (suc (counter-in l a)) b q g end; why = λ x f. absurd (none≢some f) })
+        go (inl (x, e, _)) = subst (Goes Q l v) (sym e) (goes-stop l v x)
+        go (inr (e, g)) = subst (Goes Q l v) (sym e) (record { log = entry a (suc (counter-in l a)) b ∷ l; trail = step t a (suc (counter-in l a)) b q g end })
 
     -- What a done commit leaves in the slots that are not the parent's.
     pub commit-slots : commit T S v t a b .ends ≡ none → (q : ℕ) → (q ≡ T .parent a → ⊥) → commit T S v t a b .view .table q ≡ t q
     commit-slots n q d = go commit-goes
       where
         go : Commits (commit T S v t a b) → commit T S v t a b .view .table q ≡ t q
-        go (inl (x, e, _, _)) = absurd (none≢some (sym n ∙ ap (λ r. r .ends) e))
+        go (inl (x, e, _)) = absurd (none≢some (sym n ∙ ap (λ r. r .ends) e))
         go (inr (e, g)) = ap (λ r. r .view .table q) e ∙ raise-other T S (T .depth (T .parent a)) v t a (suc (counter-in l a)) q d
 
   -- The addresses of nodes.
@@ -334,10 +329,10 @@ module _ (shapes : ℕ → Shape) (T : Shape) (L : TreeLaws T) (S : Scheme) wher
           c : Run
           c = commit T S (r .view) (r .view .table) a b
 
-          at : ((x : Fault) × (c ≡ stop (r .view) x) × Due-at (g .log) (r .view .memory) x × Reason (g .log) (r .view) a x) ⊎ ((c ≡ commit-under T S ((r .view) .memory) ((r .view) .register) (r .view .table) a b (suc (counter-in (g .log) a))) × Legal T S (g .log) (r .view) (r .view .table) a (suc (counter-in (g .log) a)) b) → Wrote l v a b (record { planned = r .planned ++ c .planned; view = c .view; ends = c .ends })
-          at (inl (x, e, d, _)) =
+          at : ((x : Fault) × (c ≡ stop (r .view) x) × Reason (g .log) (r .view) a x) ⊎ ((c ≡ commit-under T S ((r .view) .memory) ((r .view) .register) (r .view .table) a b (suc (counter-in (g .log) a))) × Legal T S (g .log) (r .view) (r .view .table) a (suc (counter-in (g .log) a)) b) → Wrote l v a b (record { planned = r .planned ++ c .planned; view = c .view; ends = c .ends })
+          at (inl (x, e, _)) =
               subst (λ z. Wrote l v a b (record { planned = r .planned ++ z .planned; view = z .view; ends = z .ends })) (sym e)
-              (short (record { log = g .log; trail = join (g .trail) end; why = λ y f. subst (Due-at (g .log) (r .view .memory)) (some-inj f) d }) x refl)
+              (short (record { log = g .log; trail = join (g .trail) end }) x refl)
           at (inr (e, G)) =
               subst (λ z. Wrote l v a b (record { planned = r .planned ++ z .planned; view = z .view; ends = z .ends })) (sym e) (whole (g .log) (g .trail) G)
 

@@ -6,7 +6,7 @@ use mathlib.Core.List.{List}
 use mathlib.Core.Option.{Option, some, none}
 use lib.Dec.{eqb}
 use lib.ListN.{length}
-use Rattle.suite.specs.Scheme.{Body, Line, Scheme, tag-of}
+use Rattle.suite.specs.Scheme.{Body, Scheme, tag-of}
 use Rattle.machine.specs.Layout.{eight-ary, restored, lines-of, update}
 use Rattle.machine.specs.Store.{line-at, commits-in}
 use Rattle.machine.specs.Faults.{fault, err, corrupt, sum-mismatch}

@@ -105,3 +105,9 @@ sixteen-ary h =
       depth = depth-by (λ a. cond (ltb a (16 * 8 ^ h)) (16 * 8 ^ h + a / 16) (16 * 8 ^ h + 8 ^ h + (a - 16 * 8 ^ h) / 8)) (16 * 8 ^ h + lines-of h) (suc h);
       limit = λ a. cond (ltb a (16 * 8 ^ h)) 4294967295 counter-limit;
     }
+
+-- The layouts of one to four levels whose leaves have sixteen counters; one level has no leaf.
+abbrev pub sixteen-leaves : ℕ → Shape
+sixteen-leaves zero = eight-ary 0
+sixteen-leaves (suc zero) = eight-ary 1
+sixteen-leaves (suc (suc h)) = sixteen-ary (suc h)
