@@ -1,1 +1,2 @@
 pub mod Scheme
+pub mod Words

@@ -1,1 +1,3 @@
 // Suites: macs, pads, tags and sealed lines.
+pub mod sealing;
+pub mod suite;
