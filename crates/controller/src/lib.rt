@@ -1,0 +1,2 @@
+// The controller of a board of untrusted memory: cold and open boards and their calls.
+pub mod types;
