@@ -1,5 +1,5 @@
 -- What came of a planned run of writes on a board, while power lasted.
-use Prim.Native.Nat.{ℕ, _+_, _/_, _^_, _<_}
+use Prim.Native.Nat.{ℕ, _+_, _<_}
 use mathlib.Core.Path.{_≡_}
 use mathlib.Core.Bool.{Bool, cond}
 use mathlib.Core.List.{List}
@@ -10,7 +10,7 @@ use Rattle.board.specs.Meaning.{Meaning}
 use Rattle.std.specs.declared.result.Result.{Result}
 use Rattle.std.specs.declared.result.Result.the-variants.{Ok, Err}
 use Rattle.suite.specs.Scheme.{Scheme}
-use Rattle.machine.specs.Layout.{eight-ary, lines-of}
+use Rattle.machine.specs.Layout.{Shape}
 use Rattle.machine.specs.Store.{Write, commits-in, Cut}
 use Rattle.machine.specs.Words.{state-in}
 use Rattle.machine.specs.Faults.{Fault, power-lost}
@@ -45,9 +45,7 @@ pub record Wrote (ws : List Write) (m : Meaning) (o : Option Fault) (m′ : Mean
   pub left-is : state-in m′ ≡ after (state-in m) done ws (m′ .power)
   pub says : o ≡ cond (ltb done (length ws)) (some (power-lost-at done ws)) none
 
--- What a write of data line a does before its own commit, at h levels.
-abbrev pub before-commit : ℕ → Scheme → ℕ → View → ℕ → Run
-before-commit h S cap v a =
-    cond (ltb (8 ^ h + a / 8) (lines-of h))
-    (and-then (evict-overdue (eight-ary h) S v (8 ^ h + a / 8)) (λ u. make-room (eight-ary h) S cap (8 ^ h + a / 8) u (u .table (8 ^ h + a / 8))))
-    (stay v)
+-- What a write of data line a does before its own commit.
+abbrev pub before-commit : Shape → Scheme → ℕ → View → ℕ → Run
+before-commit T S cap v a =
+    cond (ltb (T .parent a) (T .lines)) (and-then (evict-overdue T S v (T .parent a)) (λ u. make-room T S cap (T .parent a) u (u .table (T .parent a)))) (stay v)

@@ -1,14 +1,14 @@
 use board::types::BoardFault;
 
 // A board's fault, with the line in hand.
-#[derive(Clone, Copy, PartialEq, Eq, Debug)]
+#[derive(Clone, Copy)]
 pub struct LineFault {
     pub fault: BoardFault,
     pub line: usize,
 }
 
 // Why the tree refuses a call.
-#[derive(Clone, Copy, PartialEq, Eq, Debug)]
+#[derive(Clone, Copy)]
 pub enum TreeFault {
     Board(LineFault),
     // a line whose tag is not right, or a node's line with a counter above the limit
@@ -20,7 +20,7 @@ pub enum TreeFault {
 }
 
 // Why the controller refuses a call.
-#[derive(Clone, Copy, PartialEq, Eq, Debug)]
+#[derive(Clone, Copy)]
 pub enum Fault {
     Tree(TreeFault),
     // the address is no data address
@@ -42,7 +42,7 @@ pub enum Fault {
 }
 
 // What a writing call answers: the commits made, refused or not, and how it ended.
-#[derive(Clone, Copy, PartialEq, Eq, Debug)]
+#[derive(Clone, Copy)]
 pub struct Report {
     pub commits: u64,
     pub outcome: Result<(), Fault>,
