@@ -1,3 +1,10 @@
 // Boards: lines of nine words, a register of 32 words, and the power to write them.
 pub mod board;
+pub mod fuse;
+pub mod memory;
+pub mod tamper;
 pub mod types;
+pub mod window;
+
+#[cfg(test)]
+mod tests;
