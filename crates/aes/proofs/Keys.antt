@@ -28,8 +28,8 @@ keys-more key ks i x lt e inv =
     let n : i < length (map unpack ks) = simp length-map lt in
     rw map-set
     (below-more _ _
-      (λ j h. let ne : j ≢ i = omega arith in rw getD-set-other (inv j h))
-      (rw getD-set-same e))
+    (λ j h. let ne : j ≢ i = omega arith in rw getD-set-other (inv j h))
+    (rw getD-set-same e))
 
 -- All of them.
 pub keys-all : (key : List ℕ) (ks : List Columns) (i : ℕ) → length ks ≡ 10 → i ≡ 10 → ((j : ℕ) → j < i → getD (map unpack ks) j [] ≡ round-key key (j + 1)) → map unpack ks ≡ round-keys key

@@ -17,8 +17,8 @@ pub xor-word : (a b c d a' b' c' d' : ℕ) → b < 256 → c < 256 → d < 256 �
 xor-word a b c d a' b' c' d' hb hc hd hb' hc' hd' =
     xor-block 8 ((a * 256 + b) * 256 + c) ((a' * 256 + b') * 256 + c') d d' hd hd'
     ∙ ap (λ (x : ℕ). x * 256 + bitXor d d')
-      (xor-block 8 (a * 256 + b) (a' * 256 + b') c c' hc hc'
-       ∙ ap (λ (x : ℕ). x * 256 + bitXor c c') (xor-block 8 a a' b b' hb hb'))
+    (xor-block 8 (a * 256 + b) (a' * 256 + b') c c' hc hc'
+    ∙ ap (λ (x : ℕ). x * 256 + bitXor c c') (xor-block 8 a a' b b' hb hb'))
 
 abbrev ror : ℕ → ℕ → ℕ → ℕ
 ror w k j = bitOr (w / k) ((w * j) % 4294967296)
@@ -93,7 +93,7 @@ mixed-word-bytes : (p q r s k : ℕ) → p < 256 → q < 256 → r < 256 → s <
 unfolding mixed-word
 mixed-word-bytes p q r s k hp hq hr hs =
     bytes-word-xor (mixed (sbox p) (sbox q) (sbox r) (sbox s)) (mixed (sbox q) (sbox r) (sbox s) (sbox p)) (mixed (sbox r) (sbox s) (sbox p) (sbox q)) (mixed (sbox s) (sbox p) (sbox q) (sbox r)) k
-      (mixed-lt p q r s hp hq hr hs) (mixed-lt q r s p hq hr hs hp) (mixed-lt r s p q hr hs hp hq) (mixed-lt s p q r hs hp hq hr)
+    (mixed-lt p q r s hp hq hr hs) (mixed-lt q r s p hq hr hs hp) (mixed-lt r s p q hr hs hp hq) (mixed-lt s p q r hs hp hq hr)
 
 abbrev SubIs : ℕ → ℕ → ℕ → ℕ → ℕ → Type 0
 SubIs p q r s k = bytes4 (bitXor (sub-word p q r s) k) ≡ bitXor (sbox p) (k / 16777216 % 256) ∷ bitXor (sbox q) (k / 65536 % 256) ∷ bitXor (sbox r) (k / 256 % 256) ∷ bitXor (sbox s) (k % 256) ∷ []
@@ -132,19 +132,20 @@ rows f s k = record {
   c0 = bitXor (from4 f (s .c0) (s .c1) (s .c2) (s .c3)) (k .c0);
   c1 = bitXor (from4 f (s .c1) (s .c2) (s .c3) (s .c0)) (k .c1);
   c2 = bitXor (from4 f (s .c2) (s .c3) (s .c0) (s .c1)) (k .c2);
-  c3 = bitXor (from4 f (s .c3) (s .c0) (s .c1) (s .c2)) (k .c3) }
+  c3 = bitXor (from4 f (s .c3) (s .c0) (s .c1) (s .c2)) (k .c3);
+}
 
 pub round-bytes : (s k : Columns) → unpack (rows mixed-word s k) ≡ round (unpack s) (unpack k)
 unfolding unpack round xor-blocks mix-columns shift-rows sub-bytes
 round-bytes s k =
     join4 (mixed-at (s .c0) (s .c1) (s .c2) (s .c3) (k .c0)) (mixed-at (s .c1) (s .c2) (s .c3) (s .c0) (k .c1))
-      (mixed-at (s .c2) (s .c3) (s .c0) (s .c1) (k .c2)) (mixed-at (s .c3) (s .c0) (s .c1) (s .c2) (k .c3))
+    (mixed-at (s .c2) (s .c3) (s .c0) (s .c1) (k .c2)) (mixed-at (s .c3) (s .c0) (s .c1) (s .c2) (k .c3))
 
 pub last-bytes : (s k : Columns) → unpack (rows sub-word s k) ≡ last-round (unpack s) (unpack k)
 unfolding unpack last-round xor-blocks shift-rows sub-bytes
 last-bytes s k =
     join4 (sub-at (s .c0) (s .c1) (s .c2) (s .c3) (k .c0)) (sub-at (s .c1) (s .c2) (s .c3) (s .c0) (k .c1))
-      (sub-at (s .c2) (s .c3) (s .c0) (s .c1) (k .c2)) (sub-at (s .c3) (s .c0) (s .c1) (s .c2) (k .c3))
+    (sub-at (s .c2) (s .c3) (s .c0) (s .c1) (k .c2)) (sub-at (s .c3) (s .c0) (s .c1) (s .c2) (k .c3))
 
 -- What the functions of `columns` compute, from what their calls ensure.
 
@@ -182,7 +183,7 @@ pub loaded : (b : List ℕ) (w0 w1 w2 w3 : ℕ) → length b ≡ 16 → ((i : �
 unfolding unpack
 loaded b w0 w1 w2 w3 len h e0 e1 e2 e3 =
     join4 (be-bytes w0 _ _ _ _ e0 (h 0) (h 1) (h 2) (h 3)) (be-bytes w1 _ _ _ _ e1 (h 4) (h 5) (h 6) (h 7))
-      (be-bytes w2 _ _ _ _ e2 (h 8) (h 9) (h 10) (h 11)) (be-bytes w3 _ _ _ _ e3 (h 12) (h 13) (h 14) (h 15))
+    (be-bytes w2 _ _ _ _ e2 (h 8) (h 9) (h 10) (h 11)) (be-bytes w3 _ _ _ _ e3 (h 12) (h 13) (h 14) (h 15))
     ∙ sym (fill-by-all (λ i. getD b i 0) b 16 0 len (λ k lt. refl))
 
 abbrev four : List ℕ → List ℕ

@@ -36,7 +36,7 @@ right-from i (x ∷ xs) = cond (eqb x (spread i)) (right-from (suc i) xs) false
 unfoldable pub mixed-word : ℕ → ℕ → ℕ → ℕ → ℕ
 mixed-word p q r s =
     word4 (mixed (sbox p) (sbox q) (sbox r) (sbox s)) (mixed (sbox q) (sbox r) (sbox s) (sbox p))
-      (mixed (sbox r) (sbox s) (sbox p) (sbox q)) (mixed (sbox s) (sbox p) (sbox q) (sbox r))
+    (mixed (sbox r) (sbox s) (sbox p) (sbox q)) (mixed (sbox s) (sbox p) (sbox q) (sbox r))
 
 -- The column that the bytes p, q, r and s become, through the S-box alone.
 unfoldable pub sub-word : ℕ → ℕ → ℕ → ℕ → ℕ

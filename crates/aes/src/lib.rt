@@ -3,6 +3,7 @@ mod columns;
 mod field;
 mod rounds;
 mod schedule;
+
 use crate::columns::Columns;
 use crate::field::double;
 use crate::schedule::next_key;

@@ -1,6 +1,7 @@
 // The rounds of AES on four columns.
 use crate::columns::Columns;
-use crate::field::{spread, sub_byte};
+use crate::field::spread;
+use crate::field::sub_byte;
 ghost use mathlib.Core.Path.{_≡_};
 ghost use Prim.Native.Nat.{_/_, _%_};
 ghost use Rattle.aes.specs.Aes.{round, last-round, xor-blocks};
@@ -11,7 +12,8 @@ fn mixed_word(a: u32, b: u32, c: u32, d: u32) -> u32
     ensures { λ r. ⌜ r ≡ mixed-word (a / 16777216 % 256) (b / 65536 % 256) (c / 256 % 256) (d % 256) ⌝ }
 {
     (spread(a.to_be_bytes()[0]) ^ spread(b.to_be_bytes()[1]).rotate_right(8))
-        ^ (spread(c.to_be_bytes()[2]).rotate_right(16) ^ spread(d.to_be_bytes()[3]).rotate_right(24))
+        ^ (spread(c.to_be_bytes()[2]).rotate_right(16)
+            ^ spread(d.to_be_bytes()[3]).rotate_right(24))
 }
 
 // The same bytes through the S-box, not mixed.
@@ -45,13 +47,35 @@ impl Columns {
         let [b0, b1, b2, b3] = self.c1.to_be_bytes();
         let [c0, c1, c2, c3] = self.c2.to_be_bytes();
         let [d0, d1, d2, d3] = self.c3.to_be_bytes();
-        [a0, a1, a2, a3, b0, b1, b2, b3, c0, c1, c2, c3, d0, d1, d2, d3]
+        [
+            a0,
+            a1,
+            a2,
+            a3,
+            b0,
+            b1,
+            b2,
+            b3,
+            c0,
+            c1,
+            c2,
+            c3,
+            d0,
+            d1,
+            d2,
+            d3,
+        ]
     }
 
     pub(crate) fn xor(self, k: Columns) -> Columns
         ensures { λ r. ⌜ unpack r ≡ xor-blocks (unpack self) (unpack k) ⌝ }
     {
-        Columns { c0: self.c0 ^ k.c0, c1: self.c1 ^ k.c1, c2: self.c2 ^ k.c2, c3: self.c3 ^ k.c3 }
+        Columns {
+            c0: self.c0 ^ k.c0,
+            c1: self.c1 ^ k.c1,
+            c2: self.c2 ^ k.c2,
+            c3: self.c3 ^ k.c3,
+        }
     }
 
     pub(crate) fn round(self, k: Columns) -> Columns

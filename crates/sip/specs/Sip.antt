@@ -23,7 +23,8 @@ first-half s = record {
   v0 = rotl64 (add64 (s .v0) (s .v1)) 32;
   v1 = turn (s .v0) (s .v1) 13;
   v2 = add64 (s .v2) (s .v3);
-  v3 = turn (s .v2) (s .v3) 16 }
+  v3 = turn (s .v2) (s .v3) 16;
+}
 
 -- The second half: v0 takes v3, and v2 takes v1.
 abbrev pub second-half : SipState → SipState
@@ -31,7 +32,8 @@ second-half s = record {
   v0 = add64 (s .v0) (s .v3);
   v1 = turn (s .v2) (s .v1) 17;
   v2 = rotl64 (add64 (s .v2) (s .v1)) 32;
-  v3 = turn (s .v0) (s .v3) 21 }
+  v3 = turn (s .v0) (s .v3) 21;
+}
 
 -- SipRound.
 unfoldable pub sip-round : SipState → SipState
@@ -68,7 +70,8 @@ start key = record {
   v0 = bitXor (word key 0) 0x736f6d6570736575;
   v1 = bitXor (word key 1) 0x646f72616e646f6d;
   v2 = bitXor (word key 0) 0x6c7967656e657261;
-  v3 = bitXor (word key 1) 0x7465646279746573 }
+  v3 = bitXor (word key 1) 0x7465646279746573;
+}
 
 -- The state after the first i words of a message.
 unfoldable pub absorbed : List ℕ → List ℕ → ℕ → SipState

@@ -2,8 +2,10 @@
 mod rounds;
 mod state;
 mod words;
+
 use crate::state::SipState;
-use crate::words::{last_word, word_at};
+use crate::words::last_word;
+use crate::words::word_at;
 ghost use mathlib.Core.Path.{_≡_};
 ghost use Rattle.sip.specs.Sip.{siphash24};
 

@@ -39,16 +39,25 @@ impl SipState {
     pub(crate) fn compress(self, word: u64) -> SipState
         ensures { λ r. ⌜ r ≡ compress self word ⌝ }
     {
-        let s = SipState { v3: self.v3 ^ word, ..self };
+        let s = SipState {
+            v3: self.v3 ^ word,
+            ..self
+        };
         let s = s.round().round();
-        SipState { v0: s.v0 ^ word, ..s }
+        SipState {
+            v0: s.v0 ^ word,
+            ..s
+        }
     }
 
     // The hash, after the last word.
     pub(crate) fn finish(self) -> u64
         ensures { λ r. ⌜ r ≡ finish self ⌝ }
     {
-        let s = SipState { v2: self.v2 ^ 0xff, ..self };
+        let s = SipState {
+            v2: self.v2 ^ 0xff,
+            ..self
+        };
         let s = s.round().round().round().round();
         (s.v0 ^ s.v1) ^ (s.v2 ^ s.v3)
     }

@@ -5,6 +5,7 @@ use lib.ListN.{take, drop}
 use Rattle.std.specs.Iters.{counting}
 use Rattle.sip.specs.Sip.{siphash24, le}
 use Rattle.aes.specs.Aes.{aes128}
+use Rattle.cmac.specs.Cmac.{cmac}
 use Rattle.suite.specs.Scheme.{Body, Scheme}
 use Rattle.suite.specs.Words.{row}
 use Rattle.suite.specs.Message.{message, pad-block}
@@ -24,4 +25,13 @@ sip-scheme mac-key pad-key =
       number = 1;
       mac = λ a ws c. mac-bits (siphash24 mac-key (message a ws c));
       pad = λ a c. row (map (pad-word pad-key a c) (counting 0 8));
+    }
+
+-- Suite 2: the first eight bytes of an AES-CMAC as the mac, and a pad of zeros.
+abbrev pub cmac-scheme : List ℕ → Scheme
+cmac-scheme mac-key =
+    record {
+      number = 2;
+      mac = λ a ws c. mac-bits (le (take 8 (cmac (aes128 mac-key) (message a ws c))));
+      pad = λ a c i. 0;
     }

@@ -1,5 +1,7 @@
 ghost use mathlib.Core.Path.{_≡_};
-ghost use mathlib.Core.List.{[], _∷_};
+ghost use Prim.Native.Nat.{_+_, _≤_};
+ghost use lib.ListN.{take, drop};
+ghost use Rattle.sip.specs.Sip.{le};
 ghost use Rattle.suite.specs.Words.{row};
 ghost use Rattle.suite.specs.Message.{message as sealed-message, pad-block, word-bytes};
 
@@ -28,5 +30,39 @@ pub(crate) fn pad_block(at: u64, counter: u64, part: u8) -> [u8; 16]
 {
     let [a0, a1, a2, a3, a4, a5, a6, a7] = at.to_le_bytes();
     let [c0, c1, c2, c3, c4, c5, _, _] = counter.to_le_bytes();
-    [a0, a1, a2, a3, a4, a5, a6, a7, c0, c1, c2, c3, c4, c5, part, 0]
+    [
+        a0,
+        a1,
+        a2,
+        a3,
+        a4,
+        a5,
+        a6,
+        a7,
+        c0,
+        c1,
+        c2,
+        c3,
+        c4,
+        c5,
+        part,
+        0,
+    ]
+}
+
+// The word of eight bytes of a block, lowest byte first.
+pub(crate) fn word_of(block: &[u8; 16], at: usize) -> u64
+    requires { ⌜ at + 8 ≤ 16 ⌝ }
+    ensures { λ r. ⌜ r ≡ le (take 8 (drop at (now (block .entry)))) ⌝ }
+{
+    u64::from_le_bytes([
+        block[at],
+        block[at + 1],
+        block[at + 2],
+        block[at + 3],
+        block[at + 4],
+        block[at + 5],
+        block[at + 6],
+        block[at + 7],
+    ])
 }

@@ -1,10 +1,8 @@
 ghost use mathlib.Core.Path.{_≡_};
-ghost use Prim.Native.Nat.{_+_, _^_, _≤_};
-ghost use lib.ListN.{length, take, drop};
-ghost use Rattle.sip.specs.Sip.{le};
 ghost use Rattle.suite.specs.Suites.{sip-scheme};
 use crate::message::message;
 use crate::message::pad_block;
+use crate::message::word_of;
 use crate::suite::Suite;
 use aes::Aes128;
 use sip::SipKey;
@@ -21,25 +19,11 @@ impl SipSuite {
         ensures mac { λ r. ⌜ r .hash .bytes ≡ now («mac_key» .entry) ⌝ }
         ensures pad { λ r. ⌜ r .cipher .key ≡ now («pad_key» .entry) ⌝ }
     {
-        SipSuite { hash: SipKey::new(mac_key), cipher: Aes128::new(pad_key) }
+        SipSuite {
+            hash: SipKey::new(mac_key),
+            cipher: Aes128::new(pad_key),
+        }
     }
-}
-
-// The word of eight bytes of a block, lowest byte first.
-fn word_of(block: &[u8; 16], at: usize) -> u64
-    requires { ⌜ at + 8 ≤ 16 ⌝ }
-    ensures { λ r. ⌜ r ≡ le (take 8 (drop at (now (block .entry)))) ⌝ }
-{
-    u64::from_le_bytes([
-        block[at],
-        block[at + 1],
-        block[at + 2],
-        block[at + 3],
-        block[at + 4],
-        block[at + 5],
-        block[at + 6],
-        block[at + 7],
-    ])
 }
 
 pub impl Suite for SipSuite as SipSuiteSuite {
