@@ -26,4 +26,4 @@ module _ (shapes : ℕ → Shape) (S : Scheme) where
   abbrev pub Holds : Chip → BoardState → Log → Type 0
   Holds cold b l = Board-holds b l
   Holds (latched r) b l = Board-holds b l
-  Holds (opened cap t) b l = Formatted-board (b .size) (b .register) × Open-holds shapes (shape-of shapes b) S l (view-of b t) × (1 ≤ cap) × (dirty-count (shape-of shapes b) t ≤ cap)
+  Holds (opened cap t) b l = Formatted-board (b .size) (b .register) × Open-holds shapes (shape-of shapes b) S l (view-of b t) × (1 ≤ cap) × (cap ≤ 64) × (dirty-count (shape-of shapes b) t ≤ cap)

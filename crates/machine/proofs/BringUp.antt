@@ -26,7 +26,7 @@ use Rattle.machine.proofs.Cuts.{cut-le, cut-lost, refused-inj, done≢refused,
 use Rattle.machine.proofs.Recovery.{recover-valid, recover-complete, recover-cause}
 
 module _ (shapes : ℕ → Shape) (S : Scheme) where
-  -- A formatted board's register is fit.
+  -- A formatted board's register is valid.
   pub valid-holds : (size : ℕ) (g : Register) (l : Log) → TreeLaws (shapes (g .levels)) → Formatted-board shapes S size g → Durable (shapes (g .levels)) S l g → register-valid shapes g ≡ true
   unfolding register-valid
   valid-holds size g l L s D =
@@ -72,12 +72,12 @@ module _ (shapes : ℕ → Shape) (S : Scheme) where
       fits : register-valid shapes (b .register) ≡ true
       fits = two (leb 1 cap && leb cap 64) (register-valid shapes (b .register)) _ e
 
-  slots-may : (cap num : ℕ) (b : BoardState) → bring-up-check shapes cap num b ≡ none → (1 ≤ cap) × (map-count (shape-of shapes b) (b .register) ≤ cap)
+  slots-may : (cap num : ℕ) (b : BoardState) → bring-up-check shapes cap num b ≡ none → (1 ≤ cap) × (cap ≤ 64) × (map-count (shape-of shapes b) (b .register) ≤ cap)
   unfolding bring-up-check
   slots-may cap num b e = go (leb 1 cap && leb cap 64) refl (register-valid shapes (b .register)) (leb (shape-of shapes b .lines) (b .size)) (eqb num (b .register .suite)) (leb (map-count (shape-of shapes b) (b .register)) cap) refl e
     where
-      go : (a : Bool) → (leb 1 cap && leb cap 64) ≡ a → (x c d f : Bool) → leb (map-count (shape-of shapes b) (b .register)) cap ≡ f → cond a (cond x (cond c (cond d (cond f none (some (fault too-many-dirty 0))) (some (fault other-suite 0))) (some (fault too-few-lines 0))) (some (fault invalid-register 0))) (some (fault bad-size 0)) ≡ none → (1 ≤ cap) × (map-count (shape-of shapes b) (b .register) ≤ cap)
-      go true p true true true true q e = (leb-true _ _ (and-parts _ _ p .0), leb-true _ _ q)
+      go : (a : Bool) → (leb 1 cap && leb cap 64) ≡ a → (x c d f : Bool) → leb (map-count (shape-of shapes b) (b .register)) cap ≡ f → cond a (cond x (cond c (cond d (cond f none (some (fault too-many-dirty 0))) (some (fault other-suite 0))) (some (fault too-few-lines 0))) (some (fault invalid-register 0))) (some (fault bad-size 0)) ≡ none → (1 ≤ cap) × (cap ≤ 64) × (map-count (shape-of shapes b) (b .register) ≤ cap)
+      go true p true true true true q e = (leb-true _ _ (and-parts _ _ p .0), leb-true _ _ (and-parts _ _ p .1), leb-true _ _ q)
       go true p true true true false q e = absurd (none≢some (sym e))
       go true p true true false f q e = absurd (none≢some (sym e))
       go true p true false d f q e = absurd (none≢some (sym e))
@@ -203,7 +203,7 @@ module _ (shapes : ℕ → Shape) (S : Scheme) where
         opens : (z : Outcome Table) → recover T S (after-writes k ws (w .board) .memory) (w .board .register) ≡ z → Result (recovered-answer z) (record { board = b′; chip = recovered-chip cap z })
         opens (ok t) e =
             let (slots-hold, st) = recover-valid shapes T L S l (after-writes k ws (w .board) .memory) (w .board .register) (C .durable) fine t e in (
-              rw same (s, record { durable = C .durable; slots-hold = slots-hold; fine = fine }, slots-may cap num (w .board) may .0, omega (arith, used-map T l (w .board .register) t slots-hold, slots-may cap num (w .board) may .1)),
+              rw same (s, record { durable = C .durable; slots-hold = slots-hold; fine = fine }, slots-may cap num (w .board) may .0, slots-may cap num (w .board) may .1, omega (arith, used-map T l (w .board .register) t slots-hold, slots-may cap num (w .board) may .2)),
               record {
                 before = λ r e. no-early r e;
                 accepts = λ _ _. ((λ _. st), λ _. refl);

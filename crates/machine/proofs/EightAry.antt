@@ -11,20 +11,20 @@ use Rattle.machine.proofs.HistoryHolds.{keeps-promises}
 
 -- f steps up from a line.
 abbrev pub climb : (ℕ → ℕ) → ℕ → ℕ → ℕ
-climb restored zero a = a
-climb restored (suc f) a = climb restored f (restored a)
+climb above zero a = a
+climb above (suc f) a = climb above f (above a)
 
-module _ (restored : ℕ → ℕ) (n : ℕ) where
+module _ (above : ℕ → ℕ) (n : ℕ) where
   -- Steps are counted alike with one more turn, once the root is reached.
-  enough : (f a : ℕ) → n ≤ climb restored f a → depth-by restored n f a ≡ depth-by restored n (suc f) a
+  enough : (f a : ℕ) → n ≤ climb above f a → depth-by above n f a ≡ depth-by above n (suc f) a
   enough zero a k = sym (ap (λ b. cond b (suc 0) 0) (le-ltb a n k))
-  enough (suc f) a k = ap (λ r. cond (ltb a n) (suc r) 0) (enough f (restored a) k)
+  enough (suc f) a k = ap (λ r. cond (ltb a n) (suc r) 0) (enough f (above a) k)
 
-  pub depth-step : (f a : ℕ) → a < n → n ≤ climb restored f (restored a) → depth-by restored n (suc f) a ≡ suc (depth-by restored n (suc f) (restored a))
-  depth-step f a k c = ap (λ b. cond b (suc (depth-by restored n f (restored a))) 0) (lt-ltb a n k) ∙ ap suc (enough f (restored a) c)
+  pub depth-step : (f a : ℕ) → a < n → n ≤ climb above f (above a) → depth-by above n (suc f) a ≡ suc (depth-by above n (suc f) (above a))
+  depth-step f a k c = ap (λ b. cond b (suc (depth-by above n f (above a))) 0) (lt-ltb a n k) ∙ ap suc (enough f (above a) c)
 
-  pub root-step : (f : ℕ) → depth-by restored n (suc f) n ≡ 0
-  root-step f = ap (λ b. cond b (suc (depth-by restored n f (restored n))) 0) (le-ltb n n (omega arith))
+  pub root-step : (f : ℕ) → depth-by above n (suc f) n ≡ 0
+  root-step f = ap (λ b. cond b (suc (depth-by above n f (above n))) 0) (le-ltb n n (omega arith))
 
 -- The laws at suc f levels, from three facts on the numbers of lines and one on the way up.
 tree-of : (f m : ℕ) → 8 ^ suc f ≡ 8 * m → lines-of (suc f) ≡ 8 * lines-of f + 8 → ((a : ℕ) → lines-of (suc f) ≤ climb (λ x. 8 ^ suc f + x / 8) f (8 ^ suc f + a / 8)) → TreeLaws (eight-ary (suc f))

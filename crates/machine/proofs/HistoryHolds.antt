@@ -57,8 +57,8 @@ module _ (shapes : ℕ → Shape) (S : Scheme) where
         record { formatted = m ∙ s .formatted; low = rw e (s .low); high = rw e (s .high); fitting = rw e (s .fitting); own = u ∙ s .own }
 
     -- A run of commits, cut anywhere, keeps what holds.
-    ran : (cap : ℕ) → 1 ≤ cap → (t : Table) (b : BoardState) (l : Log) → Formatted-board shapes S (b .size) (b .register) → Open-holds shapes (shape-of shapes b) S l (view-of b t) → No-reuse l → {Q : ℕ → Type 0} (r : Run) {l₁ : Log} → dirty-count (shape-of shapes b) (r .view .table) ≤ cap → TreeLaws (shape-of shapes b) → Trail (shape-of shapes b) S Q (view-of b t) l (r .planned) (r .view) l₁ → (x : Answer) (w′ : World) (l′ : Log) → Ran cap r b l x w′ l′ → Point w′ l′
-    ran cap cl t b l s W O r {l₁} us L tr x w′ l′ (k, p, c, ex, ew, el) = rw (ew, el) (at (ltb k (length (r .planned))) refl, once-some shapes (shape-of shapes b) L S W O tr k)
+    ran : (cap : ℕ) → 1 ≤ cap → cap ≤ 64 → (t : Table) (b : BoardState) (l : Log) → Formatted-board shapes S (b .size) (b .register) → Open-holds shapes (shape-of shapes b) S l (view-of b t) → No-reuse l → {Q : ℕ → Type 0} (r : Run) {l₁ : Log} → dirty-count (shape-of shapes b) (r .view .table) ≤ cap → TreeLaws (shape-of shapes b) → Trail (shape-of shapes b) S Q (view-of b t) l (r .planned) (r .view) l₁ → (x : Answer) (w′ : World) (l′ : Log) → Ran cap r b l x w′ l′ → Point w′ l′
+    ran cap cl ch t b l s W O r {l₁} us L tr x w′ l′ (k, p, c, ex, ew, el) = rw (ew, el) (at (ltb k (length (r .planned))) refl, once-some shapes (shape-of shapes b) L S W O tr k)
       where
         same : (j : ℕ) → Same-board (after-writes j (r .planned) b .register) (b .register)
         same j = register-kept tr b refl j
@@ -81,6 +81,7 @@ module _ (shapes : ℕ → Shape) (S : Scheme) where
               subst (λ T. Open-holds shapes T S (log-after k (r .planned) l) (record { memory = after-writes k (r .planned) b .memory; register = after-writes k (r .planned) b .register; table = r .view .table })) (shape k)
                   (subst (λ j. Open-holds shapes (shape-of shapes b) S (log-after j (r .planned) l) (record { memory = after-writes j (r .planned) b .memory; register = after-writes j (r .planned) b .register; table = r .view .table })) i warm),
               cl,
+              ch,
               subst (λ T. dirty-count T (r .view .table) ≤ cap) (shape k) us,
             )
 
@@ -135,15 +136,15 @@ module _ (shapes : ℕ → Shape) (S : Scheme) where
     keeps (opened cap t) b l H O (bring-up c num) x w′ l′ f s = absurd s
     keeps (opened cap t) b l H O (recharge p) x w′ l′ f s = absurd s
     keeps (opened cap t) b l H O (read a) x w′ l′ f (ex, ew, el) = rw (ew, el) (H, O)
-    keeps (opened cap t) b l (s, W, cl, us) O (write a y) x w′ l′ f r =
+    keeps (opened cap t) b l (s, W, cl, ch, us) O (write a y) x w′ l′ f r =
         let L = laws (b .register .levels) (s .low) (s .high) in
-        ran cap cl t b l s W O (write-call (shape-of shapes b) S cap (view-of b t) a y) (call-used L cap cl (view-of b t) a y us) L (write-trail cap t b l W L a y .1) x w′ l′ r
-    keeps (opened cap t) b l (s, W, cl, us) O flush x w′ l′ f r =
+        ran cap cl ch t b l s W O (write-call (shape-of shapes b) S cap (view-of b t) a y) (call-used L cap cl (view-of b t) a y us) L (write-trail cap t b l W L a y .1) x w′ l′ r
+    keeps (opened cap t) b l (s, W, cl, ch, us) O flush x w′ l′ f r =
         let L = laws (b .register .levels) (s .low) (s .high) in
-        ran cap cl t b l s W O (flush-call (shape-of shapes b) S (view-of b t)) (flush-used L cap (view-of b t) us) L (flush-goes shapes (shape-of shapes b) L S l (view-of b t) W .trail) x w′ l′ r
-    keeps (opened cap t) b l (s, W, cl, us) O shut-down x w′ l′ f (ex, ew, el) = rw (ew, el) (inr (s, warm-cool shapes (shape-of shapes b) S W), O)
-    keeps (opened cap t) b l (s, W, cl, us) O (tamper a y) x w′ l′ f (ex, ew, el) =
-        rw (ew, el) ((s, record { durable = W .durable; slots-hold = W .slots-hold; fine = λ q k. tampered-fine (shape-of shapes b) l (b .memory) a y (f (s .formatted)) q k (W .fine q k) }, cl, us), O)
+        ran cap cl ch t b l s W O (flush-call (shape-of shapes b) S (view-of b t)) (flush-used L cap (view-of b t) us) L (flush-goes shapes (shape-of shapes b) L S l (view-of b t) W .trail) x w′ l′ r
+    keeps (opened cap t) b l (s, W, cl, ch, us) O shut-down x w′ l′ f (ex, ew, el) = rw (ew, el) (inr (s, warm-cool shapes (shape-of shapes b) S W), O)
+    keeps (opened cap t) b l (s, W, cl, ch, us) O (tamper a y) x w′ l′ f (ex, ew, el) =
+        rw (ew, el) ((s, record { durable = W .durable; slots-hold = W .slots-hold; fine = λ q k. tampered-fine (shape-of shapes b) l (b .memory) a y (f (s .formatted)) q k (W .fine q k) }, cl, ch, us), O)
     keeps (latched r) b l H O (format h) x w′ l′ f s = absurd s
     keeps (latched r) b l H O (bring-up c num) x w′ l′ f s = absurd s
     keeps (latched r) b l H O (recharge p) x w′ l′ f s = absurd s
@@ -161,7 +162,7 @@ module _ (shapes : ℕ → Shape) (S : Scheme) where
     within : (ch : Chip) (b : BoardState) (l : Log) → Holds shapes S ch b l → Within shapes ch b
     within cold b l H = tt
     within (latched r) b l H = tt
-    within (opened cap t) b l (s, W, cl, us) = us
+    within (opened cap t) b l (s, W, cl, ch, us) = (cl, ch, us)
 
     says-cold : (b : BoardState) (l : Log) → Board-holds shapes S b l → Register-says shapes S b l
     says-cold b l (inl z) = inl z
@@ -170,12 +171,12 @@ module _ (shapes : ℕ → Shape) (S : Scheme) where
     says : (ch : Chip) (b : BoardState) (l : Log) → Holds shapes S ch b l → Register-says shapes S b l
     says cold b l H = says-cold b l H
     says (latched r) b l H = says-cold b l H
-    says (opened cap t) b l (s, W, cl, us) = inr (s .formatted, register-says (shape-of shapes b) S l (b .register) (W .durable) (s .own))
+    says (opened cap t) b l (s, W, cl, ch, us) = inr (s .formatted, register-says (shape-of shapes b) S l (b .register) (W .durable) (s .own))
 
     slots-say : (ch : Chip) (b : BoardState) (l : Log) → Holds shapes S ch b l → Slots-law (shape-of shapes b) ch l
     slots-say cold b l H = tt
     slots-say (latched r) b l H = tt
-    slots-say (opened cap t) b l (s, W, cl, us) = slots (shape-of shapes b) S l (b .register) (W .durable) t (W .slots-hold)
+    slots-say (opened cap t) b l (s, W, cl, ch, us) = slots (shape-of shapes b) S l (b .register) (W .durable) t (W .slots-hold)
 
     same : (w : World) (l : Log) (ch : Chip) (w′ : World) (l′ : Log) → w′ ≡ record { board = w .board; chip = ch } → l′ ≡ l → Unchanged w ch l w′ l′
     same w l ch w′ l′ e f = (ap (λ z. z .board) e, ap (λ z. z .chip) e, f)
@@ -193,9 +194,9 @@ module _ (shapes : ℕ → Shape) (S : Scheme) where
     obeys w l (opened cap t) H O (format h) x w′ l′ s = tt
     obeys w l (opened cap t) H O (bring-up c num) x w′ l′ s = tt
     obeys w l (opened cap t) H O (recharge p) x w′ l′ s = tt
-    obeys w l (opened cap t) (sf, W, cl, us) O (read a) x w′ l′ s = (read-law shapes S w (laws _ (sf .low) (sf .high)) t l W a x (s .0), highest shapes S w (laws _ (sf .low) (sf .high)) t l W a x (s .0), same w l (opened cap t) w′ l′ (s .1) (s .2))
-    obeys w l (opened cap t) (sf, W, cl, us) O (write a y) x w′ l′ s = (write-law shapes S w (laws _ (sf .low) (sf .high)) cap t l W a y x w′ l′ s, one-commit shapes S w (laws _ (sf .low) (sf .high)) cap t l a y x w′ l′ s, record { commits = λ h. write-commits shapes S w (laws _ (sf .low) (sf .high)) cap t l W a y h x w′ l′ s; beyond = λ h. write-beyond shapes S w (laws _ (sf .low) (sf .high)) cap t l W a y h x w′ l′ s })
-    obeys w l (opened cap t) (sf, W, cl, us) O flush x w′ l′ s = (flush-law shapes S w (laws _ (sf .low) (sf .high)) cap t l W x w′ l′ s, flush-commits shapes S w (laws _ (sf .low) (sf .high)) cap t l W x w′ l′ s)
+    obeys w l (opened cap t) (sf, W, cl, ch, us) O (read a) x w′ l′ s = (read-law shapes S w (laws _ (sf .low) (sf .high)) t l W a x (s .0), highest shapes S w (laws _ (sf .low) (sf .high)) t l W a x (s .0), same w l (opened cap t) w′ l′ (s .1) (s .2))
+    obeys w l (opened cap t) (sf, W, cl, ch, us) O (write a y) x w′ l′ s = (write-law shapes S w (laws _ (sf .low) (sf .high)) cap t l W a y x w′ l′ s, one-commit shapes S w (laws _ (sf .low) (sf .high)) cap t l a y x w′ l′ s, record { commits = λ h. write-commits shapes S w (laws _ (sf .low) (sf .high)) cap t l W a y h x w′ l′ s; beyond = λ h. write-beyond shapes S w (laws _ (sf .low) (sf .high)) cap t l W a y h x w′ l′ s })
+    obeys w l (opened cap t) (sf, W, cl, ch, us) O flush x w′ l′ s = (flush-law shapes S w (laws _ (sf .low) (sf .high)) cap t l W x w′ l′ s, flush-commits shapes S w (laws _ (sf .low) (sf .high)) cap t l W x w′ l′ s)
     obeys w l (opened cap t) H O shut-down x w′ l′ s = (s .0, same w l cold w′ l′ (s .1) (s .2))
     obeys w l (opened cap t) H O (tamper a y) x w′ l′ s = tt
     obeys w l (latched r) H O (format h) x w′ l′ s = tt

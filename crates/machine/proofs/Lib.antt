@@ -31,5 +31,7 @@ pub mod WorkedCases
 pub mod CutsCompose
 pub mod SlotTable
 pub mod OneCommit
+pub mod Steps
+pub mod ReachedFacts
 pub mod Example
 pub mod SixteenAry

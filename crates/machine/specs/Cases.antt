@@ -1,60 +1,74 @@
 -- Worked cases on the definitions.
-use Prim.Native.Nat.{ℕ, _+_, _*_}
+use Prim.Native.Nat.{ℕ, _+_, _/_, _%_, _^_}
 use mathlib.Core.Path.{_≡_}
 use mathlib.Core.Bool.{Bool, true, false}
+use mathlib.Core.List.{List}
 use mathlib.Core.Option.{Option, some, none}
+use lib.Dec.{eqb}
 use lib.ListN.{length}
 use Rattle.suite.specs.Scheme.{Body, Line, Scheme, tag-of}
 use Rattle.machine.specs.Layout.{eight-ary, restored, lines-of, update}
 use Rattle.machine.specs.Store.{line-at, commits-in}
 use Rattle.machine.specs.Faults.{fault, err, corrupt, sum-mismatch}
 use Rattle.machine.specs.Plans.{View, Run, new-register, write-call, read-call, recover}
-
--- A suite whose mac is always n, and whose pad is zeros.
-abbrev pub plain : ℕ → Scheme
-plain n = record { number = 2; mac = λ a ws c. n; pad = λ a c i. 0 }
+use Rattle.machine.specs.Words.{row, dirty-of, words-of}
 
 -- A board of two levels just formatted and brought up.
-abbrev pub formatted-2 : Scheme → View
-formatted-2 S = record { memory = λ a. line-at (eight-ary 2) S a 0 (λ i. 0); register = new-register S 2; table = λ p. none }
+abbrev pub new-view : Scheme → View
+new-view S = record { memory = λ a. line-at (eight-ary 2) S a 0 (λ i. 0); register = new-register S 2; table = λ p. none }
 
-abbrev pub word : ℕ → Body
-word b = update (λ i. 0) 0 b
+-- A write on a board of two levels with one slot.
+abbrev pub write-2 : Scheme → View → ℕ → Body → Run
+write-2 S v a b = write-call (eight-ary 2) S 1 v a b
 
-abbrev pub wr : Scheme → View → ℕ → ℕ → Run
-wr S v a b = write-call (eight-ary 2) S 1 v a (word b)
-
+-- The commits of a run whose writes are all done.
 abbrev pub commits-of : Run → ℕ
 commits-of r = commits-in (length (r .planned)) (r .planned)
 
-abbrev pub put : View → ℕ → Line → View
-put v a L = record { memory = update (v .memory) a L; register = v .register; table = v .table }
+-- After a write of 13 and a write of 20.
+abbrev pub after-13 : Scheme → Body → Run
+after-13 S b = write-2 S (new-view S) 13 b
 
--- Write 13, again 13, then 14; then put the first line of 13 back.
-abbrev pub v₁ : View
-v₁ = wr (plain 0) (formatted-2 (plain 0)) 13 7 .view
+abbrev pub after-20 : Scheme → Body → Body → Run
+after-20 S b d = write-2 S (after-13 S b .view) 20 d
 
-abbrev pub v₂ : View
-v₂ = wr (plain 0) v₁ 13 9 .view
+-- A suite whose mac is always 0, and whose pad is zeros.
+abbrev pub zero-suite : Scheme
+zero-suite = record { number = 2; mac = λ a ws c. 0; pad = λ a c i. 0 }
 
-abbrev pub v₃ : View
-v₃ = wr (plain 0) v₂ 14 1 .view
+-- A body whose first word is n.
+abbrev pub one-word : ℕ → Body
+one-word n = update (λ i. 0) 0 n
 
-abbrev pub v₄ : View
-v₄ = put v₃ 13 (v₁ .memory 13)
+-- Line 13 is written twice, then 14.
+abbrev pub before-replay : View
+before-replay = write-2 zero-suite (write-2 zero-suite (after-13 zero-suite (one-word 7) .view) 13 (one-word 9) .view) 14 (one-word 1) .view
 
-pub record Cases : Type 0 where
+-- And the first line of 13 is put back.
+abbrev pub after-replay : View
+after-replay =
+    record {
+      memory = update (before-replay .memory) 13 (after-13 zero-suite (one-word 7) .view .memory 13);
+      register = before-replay .register;
+      table = before-replay .table;
+    }
+
+pub record Worked-cases : Type 0 where
+  -- lines for one to four levels
   pub lines : (lines-of 1 ≡ 8) × (lines-of 2 ≡ 72) × (lines-of 3 ≡ 584) × (lines-of 4 ≡ 4680)
-  pub way-up : (eight-ary 3 .parent 500 ≡ 574) × (eight-ary 3 .index 500 ≡ 4) × (eight-ary 3 .parent 574 ≡ 583) × (eight-ary 3 .index 574 ≡ 6) × (eight-ary 3 .parent 583 ≡ 584) × (eight-ary 3 .index 583 ≡ 7)
+  -- at three levels, the way up from line 500
+  pub parents : (eight-ary 3 .parent 500 ≡ 574) × (eight-ary 3 .parent 574 ≡ 583) × (eight-ary 3 .parent 583 ≡ eight-ary 3 .lines)
+  pub indices : (eight-ary 3 .index 500 ≡ 4) × (eight-ary 3 .index 574 ≡ 6) × (eight-ary 3 .index 583 ≡ 7)
+  -- node 583 is bit 7 of word 23
+  pub dirty-bit : (ws : List ℕ) → dirty-of 3 ws 583 ≡ eqb (row ws 23 / 2 ^ 7 % 2) 1
   pub restores : (restored 1020 3 ≡ 1027) × (restored 1027 3 ≡ 1027) × (restored 1027 2 ≡ 2050) × (restored 0 1023 ≡ 1023)
-  pub tagged : tag-of (plain 5) 0 (λ i. 0) 2050 ≡ 5122
-  -- two levels, one slot: writing 13, then 20
-  pub three-commits :
-      (commits-of (wr (plain 0) (formatted-2 (plain 0)) 13 7) + commits-of (wr (plain 0) (wr (plain 0) (formatted-2 (plain 0)) 13 7 .view) 20 7) ≡ 3)
-      × (wr (plain 0) (wr (plain 0) (formatted-2 (plain 0)) 13 7 .view) 20 7 .view .register .roots 1 ≡ 1)
-      × (wr (plain 0) (wr (plain 0) (formatted-2 (plain 0)) 13 7 .view) 20 7 .view .register .dirty 66 ≡ true)
-      × (wr (plain 0) (wr (plain 0) (formatted-2 (plain 0)) 13 7 .view) 20 7 .view .register .dirty 65 ≡ false)
-      × (wr (plain 0) (wr (plain 0) (formatted-2 (plain 0)) 13 7 .view) 20 7 .view .register .dirty-sum ≡ 1)
-  -- the read is refused at 13, and so is the bring-up, by the dirty sum
-  pub rolled-back :
-      (v₃ .register .dirty-sum ≡ 3) × (read-call (eight-ary 2) (plain 0) v₄ 13 ≡ err (fault corrupt 13)) × (recover (eight-ary 2) (plain 0) (v₄ .memory) (v₄ .register) ≡ err (fault sum-mismatch 0))
+  pub tags : (S : Scheme) (a : ℕ) (ws : Body) → S .mac a ws 2050 ≡ 5 → tag-of S a ws 2050 ≡ 5122
+  -- two levels, one slot, any suite: writing 13, then 20, makes three commits
+  pub commits : (S : Scheme) (b d : Body) → commits-of (after-13 S b) + commits-of (after-20 S b d) ≡ 3
+  pub finished : (S : Scheme) (b d : Body) → (after-13 S b .ends ≡ none) × (after-20 S b d .ends ≡ none)
+  pub root : (S : Scheme) (b d : Body) → after-20 S b d .view .register .roots 1 ≡ 1
+  pub map : (S : Scheme) (b d : Body) → row (words-of (after-20 S b d .view .register)) 22 ≡ 4
+  pub sum : (S : Scheme) (b d : Body) → after-20 S b d .view .register .dirty-sum ≡ 1
+  -- a replayed line is refused by a read, and by a bring-up through the dirty sum
+  pub replayed-read : read-call (eight-ary 2) zero-suite after-replay 13 ≡ err (fault corrupt 13)
+  pub replayed-bring-up : (before-replay .register .dirty-sum ≡ 3) × (recover (eight-ary 2) zero-suite (after-replay .memory) (after-replay .register) ≡ err (fault sum-mismatch 0))

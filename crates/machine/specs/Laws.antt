@@ -57,11 +57,11 @@ abbrev pub Needs-no-evict : Shape → ℕ → Table → Option Slot → Type 0
 Needs-no-evict T cap t (some s) = s .pending < 1023
 Needs-no-evict T cap t none = dirty-count T t < cap
 
--- An open chip has no more dirty nodes than slots.
+-- An open chip has 1 to 64 slots, and no more dirty nodes than slots.
 abbrev pub Within : (ℕ → Shape) → Chip → BoardState → Type 0
 Within shapes cold b = Unit {0}
 Within shapes (latched r) b = Unit {0}
-Within shapes (opened cap t) b = dirty-count (shape-of shapes b) t ≤ cap
+Within shapes (opened cap t) b = (1 ≤ cap) × (cap ≤ 64) × (dirty-count (shape-of shapes b) t ≤ cap)
 
 module _ (shapes : ℕ → Shape) (S : Scheme) where
   -- An accepted read gives the body last committed; it is accepted exactly when all it rests on stands; and a fault names a line that does not.

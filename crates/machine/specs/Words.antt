@@ -1,14 +1,16 @@
 -- What the board's words mean: 32 words as a register, nine words as a line, a board as a whole.
-use Prim.Native.Nat.{ℕ, _+_, _-_, _/_, _%_, _^_}
+use Prim.Native.Nat.{ℕ, _+_, _-_, _*_, _/_, _%_, _^_}
 use mathlib.Core.Path.{_≡_}
 use mathlib.Core.Bool.{Bool, cond, _&&_}
-use mathlib.Core.List.{List, []}
+use mathlib.Core.List.{List, [], _∷_, _++_, map}
 use mathlib.Core.Option.{Option, some, none}
 use lib.Dec.{leb, eqb}
 use lib.ListN.{length, getD, take, drop}
 use Rattle.suite.specs.Scheme.{Line}
 use Rattle.board.specs.Meaning.{Meaning}
+use Rattle.machine.specs.Layout.{sum-to}
 use Rattle.machine.specs.Store.{Journal, Register, BoardState}
+use Rattle.std.specs.Iters.{counting}
 use Rattle.board.specs.declared.types.Line.{Line as Stored}
 
 -- Words as a function of their place: 0 past their end.
@@ -59,6 +61,25 @@ register-in ws =
       journal = journal-of (row ws 12) ws;
       dirty = dirty-of (row ws 1) ws;
     }
+
+-- f 0 to f (n − 1) in a row.
+abbrev pub listed : ℕ → (ℕ → ℕ) → List ℕ
+listed n f = map f (counting 0 n)
+
+-- Word k of a dirty map at h levels.
+unfoldable pub map-word : ℕ → (ℕ → Bool) → ℕ → ℕ
+map-word h dirty k = sum-to 64 (λ j. cond (dirty (8 ^ h + (64 * k + j))) (2 ^ j) 0)
+
+-- Words 12 to 21 of a register: without a journal its line is zeros.
+abbrev pub journal-words : Option Journal → List ℕ
+journal-words none = no-address ∷ listed 9 (λ i. 0)
+journal-words (some j) = j .at ∷ (listed 8 (j .line .words) ++ (j .line .tag ∷ []))
+
+-- A register as 32 words.
+unfoldable pub words-of : Register → List ℕ
+words-of g =
+    g .formatted ∷ g .levels ∷ g .suite
+    ∷ (listed 8 (g .roots) ++ (g .dirty-sum ∷ (journal-words (g .journal) ++ listed 10 (map-word (g .levels) (g .dirty)))))
 
 -- A board by its meaning here.
 abbrev pub state-in : Meaning → BoardState
