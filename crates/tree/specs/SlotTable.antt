@@ -14,13 +14,18 @@ use Rattle.machine.specs.Layout.{Shape, update, counter-limit}
 use Rattle.machine.specs.Words.{bit}
 use Rattle.machine.specs.Plans.{Table, Slot as DirtyNode, is-dirty, slot-counters, overdue, raised, lowest}
 use Rattle.tree.specs.Layouts.{shape-in}
-use Rattle.tree.specs.Tables.{slot-in, rows-in}
+use Rattle.tree.specs.Tables.{slot-in, no-slot, rows-in}
 use Rattle.tree.specs.declared.types.Slot.{Slot}
 use Rattle.tree.specs.declared.types.Slots.{Slots}
 
 -- The slots by node address.
 unfoldable pub table-in : Slots → Table
 table-in s = rows-in (s .table) (s .used)
+
+-- Which slot is that of node a.
+abbrev pub Finds : Slots → ℕ → Maybe ℕ → Type 0
+Finds s a (Some i) = (i < s .used) × (table-in s a ≡ some (slot-in (getD (s .table) i no-slot))) × (getD (s .table) i no-slot .address ≡ a) × ((k : ℕ) → k < i → getD (s .table) k no-slot .address ≡ a → ⊥)
+Finds s a None = table-in s a ≡ none
 
 -- No node is dirty.
 abbrev pub no-slots : Table

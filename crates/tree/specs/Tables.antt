@@ -1,13 +1,10 @@
 -- Slots in a row, as the definitions see them.
-use Prim.Native.Nat.{ℕ, _<_}
-use mathlib.Core.Path.{_≡_}
+use Prim.Native.Nat.{ℕ}
 use mathlib.Core.Bool.{Bool, cond}
 use mathlib.Core.List.{List, [], _∷_}
 use mathlib.Core.Option.{Option, some, none}
 use lib.Dec.{leb, eqb}
-use lib.ListN.{getD, take}
-use Rattle.std.specs.declared.option.Option.{Option as Maybe}
-use Rattle.std.specs.declared.option.Option.the-variants.{Some, None}
+use lib.ListN.{take}
 use Rattle.suite.specs.Scheme.{Body}
 use Rattle.suite.specs.Words.{row}
 use Rattle.machine.specs.Layout.{every, counter-limit}
@@ -30,11 +27,6 @@ row-of (s ∷ ss) p = cond (eqb p (s .address)) (some (slot-in s)) (row-of ss p)
 -- The first n slots of a row.
 unfoldable pub rows-in : List Slot → ℕ → Table
 rows-in ss n = row-of (take n ss)
-
--- Where the first n slots hold node a.
-abbrev pub Finds : List Slot → ℕ → ℕ → Maybe ℕ → Type 0
-Finds ss n a (Some i) = (i < n) × (rows-in ss n a ≡ some (slot-in (getD ss i no-slot))) × (getD ss i no-slot .address ≡ a) × ((k : ℕ) → k < i → getD ss k no-slot .address ≡ a → ⊥)
-Finds ss n a None = rows-in ss n a ≡ none
 
 -- Whether no counter of a node is above the limit.
 unfoldable pub all-within : Body → Bool

@@ -6,8 +6,8 @@ ghost use Rattle.suite.specs.Words.{row};
 ghost use Rattle.machine.specs.Layout.{update, lines-of, counter-limit};
 ghost use Rattle.machine.specs.Plans.{raised, is-dirty, overdue as overdue-in, dirty-count, sum-of};
 ghost use Rattle.tree.specs.Layouts.{shape-in};
-ghost use Rattle.tree.specs.Tables.{no-slot, slot-in, rows-in, Finds};
-ghost use Rattle.tree.specs.SlotTable.{table-in, no-slots, map-in, Counter, Raised, Pushed, Removed, LowestIs};
+ghost use Rattle.tree.specs.Tables.{slot-in};
+ghost use Rattle.tree.specs.SlotTable.{table-in, no-slots, map-in, Finds, Counter, Raised, Pushed, Removed, LowestIs};
 use crate::counters::LIMIT;
 use crate::counters::sum_of;
 use crate::counters::within_limit;
@@ -50,7 +50,7 @@ impl Slots {
 
     // Where the slot of a node stands.
     fn find(&self, at: usize) -> Option<usize>
-        ensures { λ r. ⌜ Finds (now (self .entry) .table) (now (self .entry) .used) at r ⌝ }
+        ensures { λ r. ⌜ Finds (now (self .entry)) at r ⌝ }
     {
         for i in 0..self.used {
             if self.table[i].address == at {
@@ -97,7 +97,7 @@ impl Slots {
 impl Slots {
     // A slot more, for a node that has none.
     fn append(&mut self, slot: Slot)
-        requires { ⌜ now self .used < 64 ⌝ ∗ ⌜ rows-in (now self .table) (now self .used) (slot .address) ≡ none ⌝ }
+        requires { ⌜ now self .used < 64 ⌝ ∗ ⌜ table-in (now self) (slot .address) ≡ none ⌝ }
         requires { ⌜ 8 ^ now self .layout .levels ≤ slot .address ⌝ ∗ ⌜ slot .address < lines-of (now self .layout .levels) ⌝ ∗ ⌜ ((k : ℕ) → k < 8 → getD (slot .counters) k 0 ≤ counter-limit) ⌝ }
         ensures table { λ _. ⌜ table-in (now (self .exit)) ≡ update (table-in (now (self .entry))) (slot .address) (some (slot-in slot)) ⌝ }
         ensures more { λ _. ⌜ now (self .exit) .used ≡ now (self .entry) .used + 1 ⌝ }
