@@ -3,8 +3,7 @@ pub mod board;
 pub mod fuse;
 pub mod memory;
 pub mod tamper;
-pub mod types;
-pub mod window;
-
 #[cfg(test)]
 mod tests;
+pub mod types;
+pub mod window;

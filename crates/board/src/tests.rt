@@ -16,11 +16,19 @@ use crate::window::*;
 use std::test::*;
 
 fn line(n: u64) -> Line {
-    Line { body: [n; 8], tag: n }
+    Line {
+        body: [n; 8],
+        tag: n,
+    }
 }
 
 // Puts a line past power, then sets the power anew and writes the register.
-fn swap_and_charge<B: Tamper + Recharge>(b: &mut B, at: usize, with: Line, left: Option<u64>) -> bool
+fn swap_and_charge<B: Tamper + Recharge>(
+    b: &mut B,
+    at: usize,
+    with: Line,
+    left: Option<u64>,
+) -> bool
     ensures lines { λ r. ⌜ (r ≡ true → B·Board .meaning (now (b .exit)) .lines ≡ set (B·Board .meaning (now (b .entry)) .lines) at with) ⌝ }
     ensures power { λ _. ⌜ B·Board .meaning (now (b .exit)) .register ≡ B·Board .meaning (now (b .entry)) .register ⌝ }
 {
@@ -101,6 +109,9 @@ fn window_past_the_end() -> Result<(), Fail> {
     let mut window = Window::new(Memory::new(&mut words), usize::MAX, usize::MAX);
     check_eq(window.count(), 0)?;
     check(window.read_line(0).is_err())?;
-    check_eq(window.write_line(usize::MAX, line(1)), Err(BoardFault::Absent))?;
+    check_eq(
+        window.write_line(usize::MAX, line(1)),
+        Err(BoardFault::Absent),
+    )?;
     check_eq(window.write_register([1; 32]), Ok(()))
 }

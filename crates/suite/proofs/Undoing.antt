@@ -43,5 +43,9 @@ module _ (S : Scheme) (a c : ℕ) where
   node-undone L b e = ap (open-node S a c) e ∙ ap (λ x. cond x (some b) none) (sealed-right b)
 
   -- A line of stored words under their tag is the data line of its body.
-  pub line-eq : (out : List ℕ) (t : ℕ) (b p : Body) → row out ≡ mix b p → p ≡ S .pad a c → t ≡ tag-of S a (row out) c → line-in (record { body = out; tag = t }) ≡ data-line S a c b
-  line-eq out t b p e k h = ap (λ x. record { words = row out; tag = x }) h ∙ ap (sealed S a c) (e ∙ ap (mix b) k)
+  pub data-line-eq : (out : List ℕ) (t : ℕ) (b p : Body) → row out ≡ mix b p → p ≡ S .pad a c → t ≡ tag-of S a (row out) c → line-in (record { body = out; tag = t }) ≡ data-line S a c b
+  data-line-eq out t b p e k h = ap (λ x. record { words = row out; tag = x }) h ∙ ap (sealed S a c) (e ∙ ap (mix b) k)
+
+  -- A line of counters under their tag is the node line.
+  pub node-line-eq : (ws : List ℕ) (t : ℕ) → t ≡ tag-of S a (row ws) c → line-in (record { body = ws; tag = t }) ≡ node-line S a c (row ws)
+  node-line-eq ws t h = ap (λ x. record { words = row ws; tag = x }) h

@@ -1,2 +1,4 @@
 pub mod Scheme
 pub mod Words
+pub mod Message
+pub mod Suites

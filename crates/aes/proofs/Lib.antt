@@ -1,0 +1,4 @@
+pub mod Table
+pub mod Products
+pub mod Packed
+pub mod Keys
