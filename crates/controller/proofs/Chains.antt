@@ -96,25 +96,33 @@ module _ (r : Run) (f : View → Run) (m m₁ : Meaning) (t₁ : Table) (n n₁ 
     where
       s : Run
       s = f (view-in m₁ t₁)
+
       full : (x .done ≡ length (r .planned)) × (r .ends ≡ none)
       full = said-none r (x .done) (cut-le (m .power) (m₁ .power) (length (r .planned)) (x .done) (x .cut)) (x .says)
+
       is : and-then r f ≡ joined (f (view-in m₁ t₁))
       is = ap (λ e. chain r e f) (full .1) ∙ ap (λ v. joined (f v)) (sym (x .whole (full .0)))
+
       long : length (r .planned ++ f (view-in m₁ t₁) .planned) ≡ length (r .planned) + length (f (view-in m₁ t₁) .planned)
       long = length-append (r .planned) (f (view-in m₁ t₁) .planned)
+
       first : state-in m₁ ≡ after (state-in m) (length (r .planned)) (r .planned) (m₁ .power)
       first = x .left-is ∙ ap (λ k. after (state-in m) k (r .planned) (m₁ .power)) (full .0)
+
       alike : (after-writes (y .done) (f (view-in m₁ t₁) .planned) (state-in m₁) .memory ≡ after-writes (y .done) (f (view-in m₁ t₁) .planned) (after-writes (length (r .planned)) (r .planned) (state-in m)) .memory) × (after-writes (y .done) (f (view-in m₁ t₁) .planned) (state-in m₁) .register ≡ after-writes (y .done) (f (view-in m₁ t₁) .planned) (after-writes (length (r .planned)) (r .planned) (state-in m)) .register)
       alike = after-writes-alike (y .done) (f (view-in m₁ t₁) .planned) (state-in m₁) (after-writes (length (r .planned)) (r .planned) (state-in m)) (ap (λ (b : BoardState). b .memory) first) (ap (λ (b : BoardState). b .register) first)
+
       back : after-writes (length (r .planned) + y .done) (r .planned ++ f (view-in m₁ t₁) .planned) (state-in m) ≡ after-writes (y .done) (f (view-in m₁ t₁) .planned) (after-writes (length (r .planned)) (r .planned) (state-in m))
       back = after-writes-back (r .planned) (f (view-in m₁ t₁) .planned) (y .done) (state-in m)
+
       ends : (y .done < length (f (view-in m₁ t₁) .planned)) ⊎ (length (f (view-in m₁ t₁) .planned) ≤ y .done) → o ≡ ends-after (joined (f (view-in m₁ t₁))) (length (r .planned) + y .done)
       ends (inl h) =
           y .says ∙ ap (λ b. cond b (some (power-lost-at (y .done) (f (view-in m₁ t₁) .planned))) (f (view-in m₁ t₁) .ends)) (lt-ltb _ _ h)
-            ∙ sym (ap (λ b. cond b (some (power-lost-at (length (r .planned) + y .done) (r .planned ++ f (view-in m₁ t₁) .planned))) (f (view-in m₁ t₁) .ends)) (lt-ltb (length (r .planned) + y .done) (length (r .planned ++ f (view-in m₁ t₁) .planned)) (omega (arith, long))) ∙ ap (λ a. some (fault power-lost a)) (place-back (r .planned) (f (view-in m₁ t₁) .planned) (y .done)))
+          ∙ sym (ap (λ b. cond b (some (power-lost-at (length (r .planned) + y .done) (r .planned ++ f (view-in m₁ t₁) .planned))) (f (view-in m₁ t₁) .ends)) (lt-ltb (length (r .planned) + y .done) (length (r .planned ++ f (view-in m₁ t₁) .planned)) (omega (arith, long))) ∙ ap (λ a. some (fault power-lost a)) (place-back (r .planned) (f (view-in m₁ t₁) .planned) (y .done)))
       ends (inr h) =
           y .says ∙ ap (λ b. cond b (some (power-lost-at (y .done) (f (view-in m₁ t₁) .planned))) (f (view-in m₁ t₁) .ends)) (le-ltb _ _ h)
-            ∙ sym (ap (λ b. cond b (some (power-lost-at (length (r .planned) + y .done) (r .planned ++ f (view-in m₁ t₁) .planned))) (f (view-in m₁ t₁) .ends)) (le-ltb (length (r .planned) + y .done) (length (r .planned ++ f (view-in m₁ t₁) .planned)) (omega (arith, long))))
+          ∙ sym (ap (λ b. cond b (some (power-lost-at (length (r .planned) + y .done) (r .planned ++ f (view-in m₁ t₁) .planned))) (f (view-in m₁ t₁) .ends)) (le-ltb (length (r .planned) + y .done) (length (r .planned ++ f (view-in m₁ t₁) .planned)) (omega (arith, long))))
+
       both : Went (joined (f (view-in m₁ t₁))) m o m₂ t₂ n n₂
       both =
           record {
@@ -124,7 +132,8 @@ module _ (r : Run) (f : View → Run) (m m₁ : Meaning) (t₁ : Table) (n n₁ 
             says = ends (cases-lt (y .done) (length (f (view-in m₁ t₁) .planned)));
             whole = λ e. y .whole (omega (arith, long));
             counted = omega (arith, x .counted ∙ ap (λ k. n + commits-in k (r .planned)) (full .0), y .counted, commits-back (r .planned) (f (view-in m₁ t₁) .planned) (y .done));
-            lost = λ z e c. omega (arith, long, y .lost z e c) }
+            lost = λ z e c. omega (arith, long, y .lost z e c);
+          }
 
   pub went-stop : (x : Why) → Went r m (some x) m₁ t₁ n n₁ → Went (and-then r f) m (some x) m₁ t₁ n n₁
   went-stop x y = go (r .ends) refl
@@ -135,6 +144,7 @@ module _ (r : Run) (f : View → Run) (m m₁ : Meaning) (t₁ : Table) (n n₁ 
         where
           long : length (r .planned ++ f (r .view) .planned) ≡ length (r .planned) + length (f (r .view) .planned)
           long = length-append (r .planned) (f (r .view) .planned)
+
           at : (y .done < length (r .planned)) ⊎ (length (r .planned) ≤ y .done) → Went (joined (f (r .view))) m (some x) m₁ t₁ n n₁
           at (inr h) = absurd (none≢some (sym (y .says ∙ ap (λ b. cond b (some (power-lost-at (y .done) (r .planned))) (r .ends)) (le-ltb (y .done) (length (r .planned)) h) ∙ p)))
           at (inl h) =
@@ -143,10 +153,11 @@ module _ (r : Run) (f : View → Run) (m m₁ : Meaning) (t₁ : Table) (n n₁ 
                 cut = subst (λ n. Cut (m .power) n (y .done) (m₁ .power)) (sym long) (cut-stop (m .power) (m₁ .power) (length (r .planned)) (y .done) (length (f (r .view) .planned)) h (y .cut));
                 left-is = y .left-is ∙ ap (λ (b : BoardState). record { memory = b .memory; size = state-in m .size; register = b .register; power = (m₁ .power) }) (sym (after-writes-front (r .planned) (f (r .view) .planned) (y .done) (state-in m) (omega arith)));
                 says = y .says ∙ ap (λ b. cond b (some (power-lost-at (y .done) (r .planned))) (r .ends)) (lt-ltb (y .done) (length (r .planned)) h)
-                  ∙ sym (ap (λ b. cond b (some (power-lost-at (y .done) (r .planned ++ f (r .view) .planned))) (f (r .view) .ends)) (lt-ltb (y .done) (length (r .planned ++ f (r .view) .planned)) (omega (arith, long))) ∙ ap (λ a. some (fault power-lost a)) (place-front (r .planned) (f (r .view) .planned) (y .done) h));
+                    ∙ sym (ap (λ b. cond b (some (power-lost-at (y .done) (r .planned ++ f (r .view) .planned))) (f (r .view) .ends)) (lt-ltb (y .done) (length (r .planned ++ f (r .view) .planned)) (omega (arith, long))) ∙ ap (λ a. some (fault power-lost a)) (place-front (r .planned) (f (r .view) .planned) (y .done) h));
                 whole = λ e. absurd (omega (arith, long));
                 counted = y .counted ∙ ap (λ k. n + k) (sym (commits-front (r .planned) (f (r .view) .planned) (y .done) (omega arith)));
-                lost = λ z e c. omega (arith, long) }
+                lost = λ z e c. omega (arith, long);
+              }
 
 -- What a run done whole leaves.
 pub went-view : (r : Run) (m m′ : Meaning) (t′ : Table) (n n′ : ℕ) → Went r m none m′ t′ n n′ → view-in m′ t′ ≡ r .view

@@ -35,9 +35,9 @@ pub raised-in-slots : (h : ℕ) (m : Meaning) (t : Table) (a c p : ℕ) → p �
 unfolding memory-in
 raised-in-slots h m t a c p q n l e =
     ap (λ (x : Line). update t p (some (raised (slot-or (t p) (row (x .body))) (a % 8) c))) e
-      ∙ ap (λ s. update t p (some (raised s (a % 8) c))) (fresh (t p))
-      ∙ ap (λ x. update t x (some (raised (slot-for (memory-in (m .lines)) (t x) x) (a % 8) c))) q
-      ∙ sym (ap (λ b. cond b (update t (8 ^ h + a / 8) (some (raised (slot-for (memory-in (m .lines)) (t (8 ^ h + a / 8)) (8 ^ h + a / 8)) (a % 8) c))) t) (lt-ltb (8 ^ h + a / 8) (lines-of h) (subst (λ x. x < lines-of h) q n)))
+    ∙ ap (λ s. update t p (some (raised s (a % 8) c))) (fresh (t p))
+    ∙ ap (λ x. update t x (some (raised (slot-for (memory-in (m .lines)) (t x) x) (a % 8) c))) q
+    ∙ sym (ap (λ b. cond b (update t (8 ^ h + a / 8) (some (raised (slot-for (memory-in (m .lines)) (t (8 ^ h + a / 8)) (8 ^ h + a / 8)) (a % 8) c))) t) (lt-ltb (8 ^ h + a / 8) (lines-of h) (subst (λ x. x < lines-of h) q n)))
   where
     fresh : (o : Option Slot) → slot-or o (row (getD (m .lines) p no-line .body)) ≡ slot-for (memory-in (m .lines)) o p
     fresh (some s) = refl

@@ -42,7 +42,7 @@ pub fits-kept : (h : ℕ) (m m′ : Meaning) → Fits h m → length (m′ .line
 fits-kept h m m′ F e f = record { low = F .low; high = F .high; enough = subst (λ n. lines-of h ≤ n) (sym e) (F .enough); own = F .own ∙ sym f }
 
 module _ (h : ℕ) (m : Meaning) (F : Fits h m) (S : Scheme) (t : Table) (a c : ℕ) (b : Body) (k : a < lines-of h) (l : Line) (q : line-in l ≡ line-at (eight-ary h) S a c b) (ws : List ℕ)
-  (p : register-in ws ≡ commit-register (eight-ary h) ((view-in m t) .register) (raise-table (eight-ary h) (eight-ary h .depth (8 ^ h + a / 8)) ((view-in m t) .memory) t a c) a c (line-in l)) where
+    (p : register-in ws ≡ commit-register (eight-ary h) ((view-in m t) .register) (raise-table (eight-ary h) (eight-ary h .depth (8 ^ h + a / 8)) ((view-in m t) .memory) t a c) a c (line-in l)) where
   abbrev v : View
   v = view-in m t
 

@@ -12,13 +12,12 @@ use Rattle.std.proofs.shelf.Tests.{both-ways, cases-bool, le-leb, lt-leb}
 use Rattle.std.proofs.shelf.Lists.{getD-take, getD-drop}
 use Rattle.suite.specs.Scheme.{Scheme}
 use Rattle.board.specs.Meaning.{Meaning}
-use Rattle.machine.specs.Layout.{Shape, TreeLaws, eight-ary, lines-of, every, counter-limit}
+use Rattle.machine.specs.Layout.{Shape, TreeLaws, eight-ary, lines-of}
 use Rattle.machine.specs.Words.{row, register-in, memory-in, line-in, no-line}
 use Rattle.machine.specs.Faults.{Fault, fault, Outcome, ok, err, corrupt}
-use Rattle.machine.specs.Plans.{View, Table, Slot, held, in-line, node-valid, counter-at, counter-of}
+use Rattle.machine.specs.Plans.{is-dirty, slot-counters, View, Table, Slot, held, in-line, node-valid, counter-at, counter-of}
 use Rattle.tree.specs.Tables.{all-within}
 use Rattle.controller.specs.Views.{view-in, Fits, node-line-valid}
-use Rattle.machine.proofs.Basics.{every-at, every-from}
 use Rattle.machine.proofs.EightAry.{eight-trees}
 use Rattle.board.specs.declared.types.Line.{Line}
 
@@ -34,18 +33,6 @@ module _ (T : Shape) (L : TreeLaws T) (S : Scheme) (v : View) (a : ℕ) (h : a <
   unfolding counter-of counter-at
   counter-node k = ap (λ n. counter-at T S v n a) (L .depth-parent (T .parent a) k)
 
-pub within-true : (f : ℕ → ℕ) → ((k : ℕ) → k < 8 → f k ≤ counter-limit) → all-within f ≡ true
-unfolding all-within
-within-true f h = every-from 8 (λ i. leb (f i) counter-limit) (λ i k. le-leb (f i) counter-limit (h i k))
-
-pub within-false : (f : ℕ → ℕ) (i : ℕ) → i < 8 → counter-limit < f i → all-within f ≡ false
-unfolding all-within
-within-false f i k h = go (cases-bool (every 8 (λ i. leb (f i) counter-limit)))
-  where
-    go : (every 8 (λ i. leb (f i) counter-limit) ≡ true) ⊎ (every 8 (λ i. leb (f i) counter-limit) ≡ false) → every 8 (λ i. leb (f i) counter-limit) ≡ false
-    go (inl e) = absurd (both-ways (leb (f i) counter-limit) (lt-leb (f i) counter-limit h) (every-at 8 (λ i. leb (f i) counter-limit) e i k))
-    go (inr e) = e
-
 -- A node's line, judged as the code judges it.
 pub valid-is : (h : ℕ) (S : Scheme) (ls : List Line) (p c : ℕ) → node-valid (eight-ary h) S (memory-in ls) p c ≡ node-line-valid S p c (memory-in ls p)
 unfolding node-valid all-within
@@ -55,7 +42,7 @@ pub root-word : (ws : List ℕ) (i : ℕ) → i < 8 → register-in ws .roots i 
 unfolding register-in
 root-word ws i k = getD-take 8 (drop 3 ws) i 0 k ∙ getD-drop 3 ws i 0
 
-module _ (h : ℕ) (m : Meaning) (F : Fits h m) (S : Scheme) (t : Table) (a p : ℕ) (k : a < lines-of h) (q : p ≡ 8 ^ h + a / 8) where
+module _ (h : ℕ) (m : Meaning) (F : Fits h m) (S : Scheme) (t : Table) (a p i : ℕ) (k : a < lines-of h) (q : p ≡ 8 ^ h + a / 8) (j : i ≡ a % 8) where
   abbrev v : View
   v = view-in m t
 
@@ -65,15 +52,21 @@ module _ (h : ℕ) (m : Meaning) (F : Fits h m) (S : Scheme) (t : Table) (a p : 
   pub parent-above : a < p
   parent-above = omega (arith, q, L .parent-above a k)
 
-  pub from-root : lines-of h ≤ p → (ws : List ℕ) → ws ≡ m .register → ok (getD ws (3 + a % 8) 0) ≡ counter-of (eight-ary h) S v a
-  from-root n ws e = sym (counter-root (eight-ary h) L S v a k (subst (λ x. lines-of h ≤ x) q n) ∙ ap ok (root-word (m .register) (a % 8) (omega arith) ∙ ap (λ w. getD w (3 + a % 8) 0) (sym e)))
+  pub from-root : lines-of h ≤ p → (ws : List ℕ) → ws ≡ m .register → ok (getD ws (3 + i) 0) ≡ counter-of (eight-ary h) S v a
+  from-root n ws e =
+      ap (λ x. ok (getD ws (3 + x) 0)) j
+      ∙ sym (counter-root (eight-ary h) L S v a k (subst (λ x. lines-of h ≤ x) q n) ∙ ap ok (root-word (m .register) (a % 8) (omega arith) ∙ ap (λ w. getD w (3 + a % 8) 0) (sym e)))
 
   module _ (n : p < lines-of h) where
     way : counter-of (eight-ary h) S v a ≡ held (t p) (a % 8) (in-line (eight-ary h) S (memory-in (m .lines)) p (a % 8) (counter-of (eight-ary h) S v p))
     way = subst (λ x. counter-of (eight-ary h) S v a ≡ held (t x) (a % 8) (in-line (eight-ary h) S (memory-in (m .lines)) x (a % 8) (counter-of (eight-ary h) S v x))) (sym q) (counter-node (eight-ary h) L S v a k (subst (λ x. x < lines-of h) q n))
 
-    pub from-slot : (s : Slot) → t p ≡ some s → ok (s .counters (a % 8)) ≡ counter-of (eight-ary h) S v a
-    from-slot s e = sym (way ∙ ap (λ x. held x (a % 8) (in-line (eight-ary h) S (memory-in (m .lines)) p (a % 8) (counter-of (eight-ary h) S v p))) e)
+    pub from-slot : (c : ℕ) → is-dirty (t p) ≡ true → slot-counters (t p) i ≡ c → ok c ≡ counter-of (eight-ary h) S v a
+    from-slot c e f = go (t p) refl e f
+      where
+        go : (o : Option Slot) → t p ≡ o → is-dirty o ≡ true → slot-counters o i ≡ c → ok c ≡ counter-of (eight-ary h) S v a
+        go (some s) g e f = ap ok (sym f ∙ ap (s .counters) j) ∙ sym (way ∙ ap (λ x. held x (a % 8) (in-line (eight-ary h) S (memory-in (m .lines)) p (a % 8) (counter-of (eight-ary h) S v p))) g)
+        go none g e f = absurd (both-ways false refl e)
 
     module _ (e : t p ≡ none) (z : Outcome ℕ) (c : z ≡ counter-of (eight-ary h) S v p) where
       below : in-line (eight-ary h) S (memory-in (m .lines)) p (a % 8) z ≡ counter-of (eight-ary h) S v a
@@ -86,6 +79,8 @@ module _ (h : ℕ) (m : Meaning) (F : Fits h m) (S : Scheme) (t : Table) (a p : 
     unfolding memory-in
     from-corrupt e c f l g s = ap (λ b. cond b (ok (memory-in (m .lines) p .words (a % 8))) (err (fault corrupt p))) (s ∙ ap (λ x. node-line-valid S p c (line-in x)) g ∙ sym (valid-is h S (m .lines) p c)) ∙ below e (ok c) f
 
-    pub from-line : t p ≡ none → (c : ℕ) → ok c ≡ counter-of (eight-ary h) S v p → (l : Line) → l ≡ getD (m .lines) p no-line → true ≡ node-line-valid S p c (line-in l) → ok (row (l .body) (a % 8)) ≡ counter-of (eight-ary h) S v a
+    pub from-line : t p ≡ none → (c : ℕ) → ok c ≡ counter-of (eight-ary h) S v p → (l : Line) → l ≡ getD (m .lines) p no-line → true ≡ node-line-valid S p c (line-in l) → ok (row (l .body) i) ≡ counter-of (eight-ary h) S v a
     unfolding memory-in
-    from-line e c f l g s = ap (λ x. ok (row (x .body) (a % 8))) g ∙ ap (λ b. cond b (ok (memory-in (m .lines) p .words (a % 8))) (err (fault corrupt p))) (s ∙ ap (λ x. node-line-valid S p c (line-in x)) g ∙ sym (valid-is h S (m .lines) p c)) ∙ below e (ok c) f
+    from-line e c f l g s =
+        ap (λ x. ok (row (l .body) x)) j ∙ ap (λ x. ok (row (x .body) (a % 8))) g
+        ∙ ap (λ b. cond b (ok (memory-in (m .lines) p .words (a % 8))) (err (fault corrupt p))) (s ∙ ap (λ x. node-line-valid S p c (line-in x)) g ∙ sym (valid-is h S (m .lines) p c)) ∙ below e (ok c) f

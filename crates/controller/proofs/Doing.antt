@@ -64,7 +64,7 @@ module _ (S : Scheme) (m : Meaning) (n : ℕ) (t : Table) (lv used : ℕ) (s : M
     pub does-refused : (f : Fault) → call-check m lv used ≡ some (fault-of f) → Runs-as s (call-check m lv used) m n t r (refused (fault-of f) 0) m (world-by m s n t)
     does-refused f q =
         subst (λ (x : Maybe Fault). Runs-as x (call-check m lv used) m n t r (refused (fault-of f) 0) m (world-by m x n t)) (sym p)
-          (subst (λ (o : Option Why). Runs-as None o m n t r (refused (fault-of f) 0) m (world-by m None n t)) (sym q) (refl, refl, refl))
+        (subst (λ (o : Option Why). Runs-as None o m n t r (refused (fault-of f) 0) m (world-by m None n t)) (sym q) (refl, refl, refl))
 
     does-run : call-check m lv used ≡ none → (x : Answer) (m′ : Meaning) (w′ : World) → ((l : Log) → (l′ : Log) × Ran n r (state-in m) l x w′ l′) → Runs-as s (call-check m lv used) m n t r x m′ w′
     does-run q x m′ w′ f = subst (λ (y : Maybe Fault). Runs-as y (call-check m lv used) m n t r x m′ w′) (sym p) (subst (λ (o : Option Why). Runs-as None o m n t r x m′ w′) (sym q) f)
@@ -73,20 +73,20 @@ module _ (S : Scheme) (m : Meaning) (n : ℕ) (t : Table) (lv used : ℕ) (s : M
     pub does-call : call-check m lv used ≡ none → (m′ : Meaning) (t′ : Table) (k : ℕ) (y : Result (Unit {0}) TreeFault) (z : Result (Unit {0}) Fault) → z ≡ controller-says y → (s′ : Maybe Fault) → s′ ≡ latch-of y → Went r m (ended y) m′ t′ 0 k → Runs-as s (call-check m lv used) m n t r (report-by z k) m′ (world-by m′ s′ n t′)
     does-call q m′ t′ k y z zi s′ si W =
         does-run q (report-by z k) m′ (world-by m′ s′ n t′)
-          (λ l. let v = call-ran S m n m′ t′ k r y W l in
-            (v .0, subst (λ (a : Result (Unit {0}) Fault). Ran n r (state-in m) l (report-by a k) (world-by m′ s′ n t′) (v .0)) (sym zi) (subst (λ (b : Maybe Fault). Ran n r (state-in m) l (report-by (controller-says y) k) (world-by m′ b n t′) (v .0)) (sym si) (v .1))))
+        (λ l. let v = call-ran S m n m′ t′ k r y W l in
+        (v .0, subst (λ (a : Result (Unit {0}) Fault). Ran n r (state-in m) l (report-by a k) (world-by m′ s′ n t′) (v .0)) (sym zi) (subst (λ (b : Maybe Fault). Ran n r (state-in m) l (report-by (controller-says y) k) (world-by m′ b n t′) (v .0)) (sym si) (v .1))))
 
     -- Nothing but a refusal.
     pub does-stop : call-check m lv used ≡ none → (x : Why) → (x .cause ≡ power-lost → ⊥) → stop (view-in m t) x ≡ r → Runs-as s (call-check m lv used) m n t r (refused x 0) m (world-by m s n t)
     does-stop q x f e =
         subst (λ (y : Maybe Fault). Runs-as s (call-check m lv used) m n t r (refused x 0) m (world-by m y n t)) (sym p)
-          (does-run q (refused x 0) m (world-by m None n t) (λ l. whole S m n m t 0 r x (subst (λ (u : Run). Went u m (some x) m t 0 0) e (went-none m t x 0 f)) f l))
+        (does-run q (refused x 0) m (world-by m None n t) (λ l. whole S m n m t 0 r x (subst (λ (u : Run). Went u m (some x) m t 0 0) e (went-none m t x 0 f)) f l))
 
 module _ (S : Scheme) (m : Meaning) (n : ℕ) (t : Table) (lv used : ℕ) (s : Maybe Fault) (p : s ≡ None) (h : ℕ) (F : Fits h m) (q : call-check m lv used ≡ none) where
   pub does-beyond : (a : ℕ) (b : Body) → 8 ^ h ≤ a → Runs-as s (call-check m lv used) m n t (write-call (eight-ary (row (m .register) 1)) S n (view-in m t) a b) (refused (fault not-data a) 0) m (world-by m s n t)
   does-beyond a b g =
       does-stop S m n t lv used s _ p q (fault not-data a) (λ e. omega (arith, ap number e))
-        (sym (ap (λ x. write-call (eight-ary x) S n (view-in m t) a b) (sym (F .own)) ∙ write-outside (eight-ary h) (eight-trees h (F .low) (F .high)) a S (view-in m t) n b g))
+      (sym (ap (λ x. write-call (eight-ary x) S n (view-in m t) a b) (sym (F .own)) ∙ write-outside (eight-ary h) (eight-trees h (F .low) (F .high)) a S (view-in m t) n b g))
 
   module _ (m′ : Meaning) (t′ : Table) (k : ℕ) (y : Result (Unit {0}) TreeFault) (z : Result (Unit {0}) Fault) (zi : z ≡ controller-says y) (s′ : Maybe Fault) (si : s′ ≡ latch-of y) where
     pub does-write : (a : ℕ) (b : Body) → Went (write-call (eight-ary h) S n (view-in m t) a b) m (ended y) m′ t′ 0 k → Runs-as s (call-check m lv used) m n t (write-call (eight-ary (row (m .register) 1)) S n (view-in m t) a b) (report-by z k) m′ (world-by m′ s′ n t′)

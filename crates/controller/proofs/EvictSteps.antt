@@ -64,11 +64,12 @@ module _ (h : ℕ) (S : Scheme) (m : Meaning) (t : Table) (a : ℕ) where
   unfolding evict-now commit
   now-committed c e k t′ f b g =
       (λ i. commit-under (eight-ary h) S ((view-in m (f i)) .memory) ((view-in m (f i)) .register) (f i) a (g i) (plus i))
-        ∙ ap (made c) same
-        ∙ sym (ap (commit-at (eight-ary h) S v (update t a none) a (slot-counters (t a))) (sym e) ∙ ap (λ b. cond b (commit-under (eight-ary h) S (v .memory) (v .register) (update t a none) a (slot-counters (t a)) (suc c)) (stop v (fault at-limit a))) (lt-ltb c counter-limit k))
+      ∙ ap (made c) same
+      ∙ sym (ap (commit-at (eight-ary h) S v (update t a none) a (slot-counters (t a))) (sym e) ∙ ap (λ b. cond b (commit-under (eight-ary h) S (v .memory) (v .register) (update t a none) a (slot-counters (t a)) (suc c)) (stop v (fault at-limit a))) (lt-ltb c counter-limit k))
     where
       plus : c + 1 ≡ suc c
       plus = omega arith
+
       same : raise-table (eight-ary h) (eight-ary h .depth (8 ^ h + a / 8)) ((view-in m (update t a none)) .memory) (update t a none) a (suc c) ≡ raise-table (eight-ary h) (eight-ary h .depth (8 ^ h + a / 8)) (v .memory) (update t a none) a (suc c)
       same = raise-same h S m (update t a none) t (update t a none) a (suc c) (eight-ary h .depth (8 ^ h + a / 8))
 
@@ -101,6 +102,7 @@ module _ (h : ℕ) (S : Scheme) (m : Meaning) (t : Table) (a : ℕ) where
             go (inl u) = u
             go (inr u) = absurd (err≢ok (sym (g ∙ ap (λ b. cond b (ok (memory-in (m .lines) (8 ^ h + a / 8) .words (a % 8))) (err (fault corrupt (8 ^ h + a / 8)))) u)))
         from (err r) g = absurd (err≢ok (sym g))
+
         fine : (d : ℕ) × (node-valid (eight-ary h) S (memory-in (m .lines)) (8 ^ h + a / 8) d ≡ true)
         fine = from (counter-of (eight-ary h) S v (8 ^ h + a / 8)) (e ∙ counter-node (eight-ary h) L S v a k x ∙ ap (λ o. held o (a % 8) (in-line (eight-ary h) S (memory-in (m .lines)) (8 ^ h + a / 8) (a % 8) (counter-of (eight-ary h) S v (8 ^ h + a / 8)))) (sym (parent-kept t′ f) ∙ y))
 
@@ -135,8 +137,8 @@ module _ (h : ℕ) (S : Scheme) (m : Meaning) (t : Table) (a : ℕ) (F : Fits h 
   pub evict-first : p < lines-of h → true ≡ overdue (t p) → and-then (evict (eight-ary h) S (view-in m t) p) (λ u. evict-now (eight-ary h) S u a) ≡ evict (eight-ary h) S (view-in m t) a
   evict-first n o =
       ap (λ x. and-then (evict (eight-ary h) S (view-in m t) x) (λ u. evict-now (eight-ary h) S u a)) q
-        ∙ ap (λ b. cond b (and-then (evict (eight-ary h) S (view-in m t) (8 ^ h + a / 8)) (λ u. evict-now (eight-ary h) S u a)) (evict-now (eight-ary h) S (view-in m t) a)) (o ∙ ap (λ x. overdue (t x)) q)
-        ∙ sym (evict-node h S m t a F k (subst (λ x. x < lines-of h) q n))
+      ∙ ap (λ b. cond b (and-then (evict (eight-ary h) S (view-in m t) (8 ^ h + a / 8)) (λ u. evict-now (eight-ary h) S u a)) (evict-now (eight-ary h) S (view-in m t) a)) (o ∙ ap (λ x. overdue (t x)) q)
+      ∙ sym (evict-node h S m t a F k (subst (λ x. x < lines-of h) q n))
 
   pub evict-only : (p < lines-of h → overdue (t p) ≡ false) → evict-now (eight-ary h) S (view-in m t) a ≡ evict (eight-ary h) S (view-in m t) a
   evict-only f = go (cases-lt p (lines-of h))
@@ -181,6 +183,7 @@ counter-at-corrupt h S v (suc r) a x e = slot (v .table (8 ^ h + a / 8)) (λ y i
                 from : Outcome ℕ → Fault
                 from (ok c) = y
                 from (err w) = w
+
     slot : (o : Option Slot) → ((y : Fault) → err y ≡ counter-at (eight-ary h) S v r (8 ^ h + a / 8) → y .cause ≡ corrupt) → err x ≡ held o (a % 8) (in-line (eight-ary h) S (v .memory) (8 ^ h + a / 8) (a % 8) (counter-at (eight-ary h) S v r (8 ^ h + a / 8))) → x .cause ≡ corrupt
     slot (some s) ih g = absurd (err≢ok g)
     slot none ih g = line-of (counter-at (eight-ary h) S v r (8 ^ h + a / 8)) ih g

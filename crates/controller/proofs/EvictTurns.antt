@@ -45,7 +45,7 @@ module _ (h : ℕ) (S : Scheme) (m : Meaning) (t : Table) (n keep : ℕ) (u : n 
   unfolding evict-until
   until-more f a k L =
       sym (ap (λ b. cond b (stay v) (and-then (evict-lowest (eight-ary h) S v (lowest (eight-ary h) t)) (evict-until (eight-ary h) S keep f))) (ap (λ x. leb x keep) (sym u) ∙ lt-leb n keep k)
-        ∙ ap (λ o. and-then (evict-lowest (eight-ary h) S v o) (evict-until (eight-ary h) S keep f)) (L .is))
+      ∙ ap (λ o. and-then (evict-lowest (eight-ary h) S v o) (evict-until (eight-ary h) S keep f)) (L .is))
 
 -- After a turn, no node up to the one evicted is dirty.
 pub next-below : (h : ℕ) (t t′ : Table) (a i : ℕ) {m : Meaning} → Fits h m → Lowest (eight-ary h) t a → ((q : ℕ) → q < i → is-dirty (t q) ≡ false) → Left-slot (eight-ary h) a t none t′ → (q : ℕ) → q < i + 1 → is-dirty (t′ q) ≡ false
@@ -53,12 +53,14 @@ next-below h t t′ a i F L f O q n = go (cases-order q a)
   where
     up : a < 8 ^ h + a / 8
     up = eight-trees h (F .low) (F .high) .parent-above a (L .range)
+
     late : i ≤ a
     late = pick (cases-lt a i)
       where
         pick : (a < i) ⊎ (i ≤ a) → i ≤ a
         pick (inl x) = absurd (both-ways (is-dirty (t a)) (f a x) (L .dirty))
         pick (inr x) = x
+
     go : (q ≡ a) ⊎ ((q < a) ⊎ (a < q)) → is-dirty (t′ q) ≡ false
     go (inl e) = ap is-dirty (O refl q (omega (arith, up)) ∙ update-same t a none q e)
     go (inr (inl e)) = ap is-dirty (O refl q (omega (arith, up)) ∙ update-other t a none q (λ x. omega arith)) ∙ L .below q e

@@ -56,23 +56,28 @@ module _ (ws ws₁ : List Write) (m m₁ : Meaning) where
         done = length ws + y .done;
         cut = subst (λ n. Cut (m .power) n (length ws + y .done) (m₂ .power)) (sym long) (cut-join (m .power) (m₁ .power) (m₂ .power) (length ws) (y .done) (length ws₁) (subst (λ k. Cut (m .power) (length ws) k (m₁ .power)) full (x .cut)) (y .cut));
         left-is = y .left-is ∙ (λ i. record { memory = (alike .0 ∙ ap (λ (b : BoardState). b .memory) (sym back)) i; size = first i .size; register = (alike .1 ∙ ap (λ (b : BoardState). b .register) (sym back)) i; power = (m₂ .power) });
-        says = y .says ∙ ends (cases-lt (y .done) (length ws₁)) }
+        says = y .says ∙ ends (cases-lt (y .done) (length ws₁));
+      }
     where
       full : x .done ≡ length ws
       full = all-done (x .done) (cut-le (m .power) (m₁ .power) (length ws) (x .done) (x .cut)) (x .says)
+
       first : state-in m₁ ≡ after (state-in m) (length ws) ws (m₁ .power)
       first = x .left-is ∙ ap (λ k. after (state-in m) k ws (m₁ .power)) full
+
       alike : (after-writes (y .done) ws₁ (state-in m₁) .memory ≡ after-writes (y .done) ws₁ (after-writes (length ws) ws (state-in m)) .memory) × (after-writes (y .done) ws₁ (state-in m₁) .register ≡ after-writes (y .done) ws₁ (after-writes (length ws) ws (state-in m)) .register)
       alike = after-writes-alike (y .done) ws₁ (state-in m₁) (after-writes (length ws) ws (state-in m)) (ap (λ (b : BoardState). b .memory) first) (ap (λ (b : BoardState). b .register) first)
+
       back : after-writes (length ws + y .done) (ws ++ ws₁) (state-in m) ≡ after-writes (y .done) ws₁ (after-writes (length ws) ws (state-in m))
       back = after-writes-back ws ws₁ (y .done) (state-in m)
+
       ends : (y .done < length ws₁) ⊎ (length ws₁ ≤ y .done) → cond (ltb (y .done) (length ws₁)) (some (power-lost-at (y .done) ws₁)) none ≡ cond (ltb (length ws + y .done) (length (ws ++ ws₁))) (some (power-lost-at (length ws + y .done) (ws ++ ws₁))) none
       ends (inl h) =
           ap (λ b. cond b (some (power-lost-at (y .done) ws₁)) none) (lt-ltb _ _ h)
-            ∙ sym (ap (λ b. cond b (some (power-lost-at (length ws + y .done) (ws ++ ws₁))) none) (lt-ltb (length ws + y .done) (length (ws ++ ws₁)) (omega (arith, long))) ∙ ap (λ a. some (fault power-lost a)) (place-back ws ws₁ (y .done)))
+          ∙ sym (ap (λ b. cond b (some (power-lost-at (length ws + y .done) (ws ++ ws₁))) none) (lt-ltb (length ws + y .done) (length (ws ++ ws₁)) (omega (arith, long))) ∙ ap (λ a. some (fault power-lost a)) (place-back ws ws₁ (y .done)))
       ends (inr h) =
           ap (λ b. cond b (some (power-lost-at (y .done) ws₁)) none) (le-ltb _ _ h)
-            ∙ sym (ap (λ b. cond b (some (power-lost-at (length ws + y .done) (ws ++ ws₁))) none) (le-ltb (length ws + y .done) (length (ws ++ ws₁)) (omega (arith, long))))
+          ∙ sym (ap (λ b. cond b (some (power-lost-at (length ws + y .done) (ws ++ ws₁))) none) (le-ltb (length ws + y .done) (length (ws ++ ws₁)) (omega (arith, long))))
 
   pub wrote-stop : (x : Why) → Wrote ws m (some x) m₁ → Wrote (ws ++ ws₁) m (some x) m₁
   wrote-stop x y = at (cases-lt (y .done) (length ws))
@@ -85,7 +90,8 @@ module _ (ws ws₁ : List Write) (m m₁ : Meaning) where
             cut = subst (λ n. Cut (m .power) n (y .done) (m₁ .power)) (sym long) (cut-stop (m .power) (m₁ .power) (length ws) (y .done) (length ws₁) h (y .cut));
             left-is = y .left-is ∙ ap (λ (b : BoardState). record { memory = b .memory; size = state-in m .size; register = b .register; power = (m₁ .power) }) (sym (after-writes-front ws ws₁ (y .done) (state-in m) (omega arith)));
             says = y .says ∙ ap (λ b. cond b (some (power-lost-at (y .done) ws)) none) (lt-ltb (y .done) (length ws) h)
-              ∙ sym (ap (λ b. cond b (some (power-lost-at (y .done) (ws ++ ws₁))) none) (lt-ltb (y .done) (length (ws ++ ws₁)) (omega (arith, long))) ∙ ap (λ a. some (fault power-lost a)) (place-front ws ws₁ (y .done) h)) }
+                ∙ sym (ap (λ b. cond b (some (power-lost-at (y .done) (ws ++ ws₁))) none) (lt-ltb (y .done) (length (ws ++ ws₁)) (omega (arith, long))) ∙ ap (λ a. some (fault power-lost a)) (place-front ws ws₁ (y .done) h));
+          }
 
 pub wrote-none : (m : Meaning) → Wrote [] m none m
 unfolding after-writes
@@ -100,7 +106,7 @@ cut-zero : (p : Power) → p ≡ writes 0 → Cut p 1 0 p
 cut-zero p e = subst (λ (x : Power). Cut x 1 0 x) (sym e) (omega arith, omega arith, (λ _. refl), λ _. refl)
 
 cut-one : (p q : Power) → Spent p q → Cut p 1 1 q
-cut-one endless q s = subst (λ (x : Power). Cut ( endless) 1 1 x) (sym s) refl
+cut-one endless q s = subst (λ (x : Power). Cut (endless) 1 1 x) (sym s) refl
 cut-one (writes p) endless s = absurd s
 cut-one (writes p) (writes q) s = (omega arith, omega arith, (λ x. absurd (omega arith)), λ x. absurd (omega arith))
 
@@ -111,24 +117,27 @@ module _ (m : Meaning) (a : ℕ) (l : Line) (L : Same-commit) (q : line-in l ≡
   line-lost k (Err Absent) f y e = absurd (omega (arith, y .0))
   line-lost k (Err PowerLost) f y e =
       subst (λ (x : LineFault). Wrote (write-line a L ∷ []) m (some (tree-fault (OfBoard x))) m′) (sym (Err-inj e))
-        (record {
-          done = 0;
-          cut = subst (λ (x : Meaning). Cut (m .power) 1 0 (x .power)) (sym (y .2)) (cut-zero (m .power) (y .1));
-          left-is = ap state-in (y .2) ∙ ap (λ (x : Meaning). record { memory = memory-in (m .lines); size = length (m .lines); register = register-in (m .register); power = (x .power) }) (sym (y .2));
-          says = refl })
+      (record {
+        done = 0;
+        cut = subst (λ (x : Meaning). Cut (m .power) 1 0 (x .power)) (sym (y .2)) (cut-zero (m .power) (y .1));
+        left-is = ap state-in (y .2) ∙ ap (λ (x : Meaning). record { memory = memory-in (m .lines); size = length (m .lines); register = register-in (m .register); power = (x .power) }) (sym (y .2));
+        says = refl;
+      })
 
   pub line-done : (r : Result (Unit {0}) BoardFault) → LineWritten m a l r m′ → Ok tt ≡ with-line r a → Wrote (write-line a L ∷ []) m none m′ × (length (m′ .lines) ≡ length (m .lines))
   unfolding after-writes
   line-done (Err f) y e = absurd (all-valid≢err e)
   line-done (Ok u) y e =
       let memory : memory-in (m′ .lines) ≡ update (memory-in (m .lines)) a L = ap memory-in (y .1) ∙ mem-set (m .lines) a l (y .0) ∙ ap (update (memory-in (m .lines)) a) q in
-      let size : length (m′ .lines) ≡ length (m .lines) = ap length (y .1) ∙ length-set (m .lines) a l in
-      (record {
-        done = 1;
-        cut = cut-one (m .power) (m′ .power) (y .3);
-        left-is = λ i. record { memory = memory i; size = size i; register = register-in (y .2 i); power = (m′ .power) };
-        says = refl },
-        size)
+      let size : length (m′ .lines) ≡ length (m .lines) = ap length (y .1) ∙ length-set (m .lines) a l in (
+        record {
+          done = 1;
+          cut = cut-one (m .power) (m′ .power) (y .3);
+          left-is = λ i. record { memory = memory i; size = size i; register = register-in (y .2 i); power = (m′ .power) };
+          says = refl;
+        },
+        size,
+      )
 
 module _ (m : Meaning) (es : Log) (ws : List ℕ) (R : Register) (q : register-in ws ≡ R) (m′ : Meaning) where
   pub register-lost : (r : Result (Unit {0}) BoardFault) (f : LineFault) → RegisterWritten m ws r m′ → Err f ≡ with-line r 0 → Wrote (write-register 0 es R ∷ []) m (some (tree-fault (OfBoard f))) m′
@@ -137,11 +146,12 @@ module _ (m : Meaning) (es : Log) (ws : List ℕ) (R : Register) (q : register-i
   register-lost (Err Absent) f y e = absurd y
   register-lost (Err PowerLost) f y e =
       subst (λ (x : LineFault). Wrote (write-register 0 es R ∷ []) m (some (tree-fault (OfBoard x))) m′) (sym (Err-inj e))
-        (record {
-          done = 0;
-          cut = subst (λ (x : Meaning). Cut (m .power) 1 0 (x .power)) (sym (y .1)) (cut-zero (m .power) (y .0));
-          left-is = ap state-in (y .1) ∙ ap (λ (x : Meaning). record { memory = memory-in (m .lines); size = length (m .lines); register = register-in (m .register); power = (x .power) }) (sym (y .1));
-          says = refl })
+      (record {
+        done = 0;
+        cut = subst (λ (x : Meaning). Cut (m .power) 1 0 (x .power)) (sym (y .1)) (cut-zero (m .power) (y .0));
+        left-is = ap state-in (y .1) ∙ ap (λ (x : Meaning). record { memory = memory-in (m .lines); size = length (m .lines); register = register-in (m .register); power = (x .power) }) (sym (y .1));
+        says = refl;
+      })
 
   pub register-done : (r : Result (Unit {0}) BoardFault) → RegisterWritten m ws r m′ → Ok tt ≡ with-line r 0 → Wrote (write-register 0 es R ∷ []) m none m′
   unfolding after-writes
@@ -151,7 +161,8 @@ module _ (m : Meaning) (es : Log) (ws : List ℕ) (R : Register) (q : register-i
         done = 1;
         cut = cut-one (m .power) (m′ .power) (y .2);
         left-is = λ i. record { memory = memory-in (y .0 i); size = length (y .0 i); register = (ap register-in (y .1) ∙ q) i; power = (m′ .power) };
-        says = refl }
+        says = refl;
+      }
 
 module _ (h : ℕ) (S : Scheme) where
   abbrev zero-line : ℕ → Same-commit
@@ -208,6 +219,7 @@ register-new h S ws e = ap register-in e ∙ (λ i. record { formatted = 1; leve
       where
         tail : (y : ℕ) → eqb (0 / y % 2) 1 ≡ false
         tail y = ap (λ x. eqb (x % 2) 1) (zero-div y)
+
     off : (p : ℕ) → (leb (8 ^ h) p && bit (drop 22 (new-words h (S .number))) (p - 8 ^ h)) ≡ false
     off p = ap (λ b. leb (8 ^ h) p && b) (bit-off (p - 8 ^ h)) ∙ both (leb (8 ^ h) p)
       where
@@ -249,12 +261,13 @@ module _ (S : Scheme) (m : Meaning) (h : ℕ) where
       unfolding register-in
       format-does n m′ y z zi P =
           subst (λ (x : Result (Unit {0}) Fault). Formats S h m (report-by x 0) m′) (sym zi)
-            (subst (λ (o : Option Why). Formats-as S h o m (report-by (controller-says y) 0) m′) (sym (fitting ∙ ap (λ b. cond b none (some (fault already-formatted 0))) (eq-eqb (row (m .register) 0) 0 n)))
-              (λ l. (log-after (P .done) (format-writes (eight-ary h) S h) l, (P .done, m′ .power, P .cut, says y (P .says), (λ i. record { board = P .left-is i; chip = cold }), refl))))
+          (subst (λ (o : Option Why). Formats-as S h o m (report-by (controller-says y) 0) m′) (sym (fitting ∙ ap (λ b. cond b none (some (fault already-formatted 0))) (eq-eqb (row (m .register) 0) 0 n)))
+          (λ l. (log-after (P .done) (format-writes (eight-ary h) S h) l, (P .done, m′ .power, P .cut, says y (P .says), (λ i. record { board = P .left-is i; chip = cold }), refl))))
         where
           go : (b : Bool) (d : Why) → ending (cond b (some d) none) 0 ≡ cond b (refused d 0) (done 0)
           go true d = refl
           go false d = refl
+
           says : (y : Result (Unit {0}) TreeFault) → ended y ≡ cond (ltb (P .done) (length (format-writes (eight-ary h) S h))) (some (power-lost-at (P .done) (format-writes (eight-ary h) S h))) none → report-by (controller-says y) 0 ≡ cond (ltb (P .done) (length (format-writes (eight-ary h) S h))) (refused (power-lost-at (P .done) (format-writes (eight-ary h) S h)) 0) (done 0)
           says (Ok u) e = ap (λ o. ending o 0) e ∙ go (ltb (P .done) (length (format-writes (eight-ary h) S h))) (power-lost-at (P .done) (format-writes (eight-ary h) S h))
           says (Err f) e = ap (λ o. ending o 0) e ∙ go (ltb (P .done) (length (format-writes (eight-ary h) S h))) (power-lost-at (P .done) (format-writes (eight-ary h) S h))

@@ -27,7 +27,8 @@ part-of i n ws ys h e =
       long = search (needs, places);
       below = λ k x. grind (arith, places);
       inside = λ k x. grind (arith, places);
-      above = λ k x. grind (arith, places) }
+      above = λ k x. grind (arith, places);
+    }
 
 module _ (ws : List ℕ) (sum a : ℕ) (l : Line) (dirty : List ℕ) (n : length ws ≡ 32) (b : length (l .body) ≡ 8) (c : length dirty ≡ 10) where
   module _ (two : List ℕ) (p : Part 13 8 (set (set ws 11 sum) 12 a) (l .body) two) (r : List ℕ) (q : Part 22 10 (set two 21 (l .tag)) dirty r) where
@@ -69,22 +70,23 @@ module _ (ws : List ℕ) (sum a : ℕ) (l : Line) (dirty : List ℕ) (n : length
           levels = lower 1 (omega arith);
           suite = lower 2 (omega arith);
           roots =
-            same-words _ _ (eight-three r long-four ∙ sym (eight-three ws n))
+              same-words _ _ (eight-three r long-four ∙ sym (eight-three ws n))
               (λ k h. let k8 : k < 8 = omega (arith, eight-three r long-four) in part-at r 3 k k8 ∙ lower (3 + k) (omega arith) ∙ sym (part-at ws 3 k k8));
           sum-is = low 11 (omega arith) ∙ getD-set-other (set ws 11 sum) 12 11 a 0 (omega arith) ∙ getD-set-same ws 11 sum 0 (omega (arith, n));
           at = low 12 (omega arith) ∙ getD-set-same (set ws 11 sum) 12 a 0 (omega (arith, n, length-set ws 11 sum));
           body =
-            same-words _ _ (mid ∙ sym b)
+              same-words _ _ (mid ∙ sym b)
               (λ k h. let k8 : k < 8 = omega (arith, mid) in part-at r 13 k k8 ∙ q .below (13 + k) (omega arith) ∙ getD-set-other two 21 (13 + k) (l .tag) 0 (omega arith) ∙ p .inside k k8);
           tag = q .below 21 (omega arith) ∙ getD-set-same two 21 (l .tag) 0 (omega (arith, long-two));
-          map = same-words _ _ (top ∙ sym c) (λ k h. getD-drop 22 r k 0 ∙ q .inside k (omega (arith, top))) }
+          map = same-words _ _ (top ∙ sym c) (λ k h. getD-drop 22 r k 0 ∙ q .inside k (omega (arith, top)));
+        }
 
   pub journaled-put : (ys zs : List ℕ) → ys ≡ l .body → zs ≡ dirty → Journaled ws sum a l dirty (putMid 22 10 (set (putMid 13 8 (set (set ws 11 sum) 12 a) ys) 21 (l .tag)) zs)
   journaled-put ys zs e f =
       subst (λ (y : List ℕ). Journaled ws sum a l dirty (putMid 22 10 (set (putMid 13 8 (set (set ws 11 sum) 12 a) y) 21 (l .tag)) zs)) (sym e)
-        (subst (λ (z : List ℕ). Journaled ws sum a l dirty (putMid 22 10 (set (putMid 13 8 (set (set ws 11 sum) 12 a) (l .body)) 21 (l .tag)) z)) (sym f)
-          (journaled-words (putMid 13 8 (set (set ws 11 sum) 12 a) (l .body)) p (putMid 22 10 (set (putMid 13 8 (set (set ws 11 sum) 12 a) (l .body)) 21 (l .tag)) dirty)
-            (part-of 22 10 (set (putMid 13 8 (set (set ws 11 sum) 12 a) (l .body)) 21 (l .tag)) dirty (omega (arith, length-set (putMid 13 8 (set (set ws 11 sum) 12 a) (l .body)) 21 (l .tag), p .long, length-set (set ws 11 sum) 12 a, length-set ws 11 sum, n)) c)))
+      (subst (λ (z : List ℕ). Journaled ws sum a l dirty (putMid 22 10 (set (putMid 13 8 (set (set ws 11 sum) 12 a) (l .body)) 21 (l .tag)) z)) (sym f)
+      (journaled-words (putMid 13 8 (set (set ws 11 sum) 12 a) (l .body)) p (putMid 22 10 (set (putMid 13 8 (set (set ws 11 sum) 12 a) (l .body)) 21 (l .tag)) dirty)
+      (part-of 22 10 (set (putMid 13 8 (set (set ws 11 sum) 12 a) (l .body)) 21 (l .tag)) dirty (omega (arith, length-set (putMid 13 8 (set (set ws 11 sum) 12 a) (l .body)) 21 (l .tag), p .long, length-set (set ws 11 sum) 12 a, length-set ws 11 sum, n)) c)))
     where
       p : Part 13 8 (set (set ws 11 sum) 12 a) (l .body) (putMid 13 8 (set (set ws 11 sum) 12 a) (l .body))
       p = part-of 13 8 (set (set ws 11 sum) 12 a) (l .body) (omega (arith, length-set (set ws 11 sum) 12 a, length-set ws 11 sum, n)) b

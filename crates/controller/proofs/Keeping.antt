@@ -39,7 +39,7 @@ pub check-ok : (m : Meaning) (lv n : ℕ) → 1 ≤ row (m .register) 1 → row 
 unfolding call-check
 check-ok m lv n low high enough own =
     (λ i. cond (le-leb 1 (row (m .register) 1) low i && le-leb (row (m .register) 1) 4 high i) (cond (le-leb (lines-of (row (m .register) 1)) (length (m .lines)) enough i) (cond (eqb n 0 || eqb (row (m .register) 1) lv) none (some (fault invalid-register 0))) (some (fault too-few-lines 0))) (some (fault invalid-register 0)))
-      ∙ go (cases-eq n 0)
+    ∙ go (cases-eq n 0)
   where
     or : (b : Bool) → cond (b || true) none (some (fault invalid-register 0)) ≡ none
     or true = refl
@@ -94,7 +94,7 @@ module _ (S : Scheme) (m : Meaning) (c : Chip) where
       kept (Some f) (ex, em, ew) = keeps S (world-by m (Some f) (c .capacity) (table-in (c .slots))) (write a b) x (world-in m′ c′) (λ l R. (l, tt, (ex, ew, refl)))
       kept None D =
           keeps S (world-by m None (c .capacity) (table-in (c .slots))) (write a b) x (world-in m′ c′)
-            (λ l R. let q = subst (λ (o : Option Why). Runs-as None o m (c .capacity) (table-in (c .slots)) (write-plan S m c a b) x m′ (world-in m′ c′)) (check-passes l R) D l in (q .0, tt, q .1))
+          (λ l R. let q = subst (λ (o : Option Why). Runs-as None o m (c .capacity) (table-in (c .slots)) (write-plan S m c a b) x m′ (world-in m′ c′)) (check-passes l R) D l in (q .0, tt, q .1))
 
   -- A flush.
   pub flush-kept : (x : Answer) (m′ : Meaning) (c′ : Chip) → Does (flush-plan S m c) m c x m′ c′ → Keeps S (world-in m c) flush x (world-in m′ c′)
@@ -105,7 +105,7 @@ module _ (S : Scheme) (m : Meaning) (c : Chip) where
       kept (Some f) (ex, em, ew) = keeps S (world-by m (Some f) (c .capacity) (table-in (c .slots))) flush x (world-in m′ c′) (λ l R. (l, tt, (ex, ew, refl)))
       kept None D =
           keeps S (world-by m None (c .capacity) (table-in (c .slots))) flush x (world-in m′ c′)
-            (λ l R. let q = subst (λ (o : Option Why). Runs-as None o m (c .capacity) (table-in (c .slots)) (flush-plan S m c) x m′ (world-in m′ c′)) (check-passes l R) D l in (q .0, tt, q .1))
+          (λ l R. let q = subst (λ (o : Option Why). Runs-as None o m (c .capacity) (table-in (c .slots)) (flush-plan S m c) x m′ (world-in m′ c′)) (check-passes l R) D l in (q .0, tt, q .1))
 
   -- A read.
   pub read-kept : (a : ℕ) (x : Answer) → x ≡ read-of S m c a → Keeps S (world-in m c) (read a) x (world-in m c)
@@ -119,7 +119,7 @@ module _ (S : Scheme) (m : Meaning) (c : Chip) where
       kept (Some f) e = keeps S (world-by m (Some f) (c .capacity) (table-in (c .slots))) (read a) x (world-by m (Some f) (c .capacity) (table-in (c .slots))) (λ l R. (l, tt, (e, refl, refl)))
       kept None e =
           keeps S (world-by m None (c .capacity) (table-in (c .slots))) (read a) x (world-by m None (c .capacity) (table-in (c .slots)))
-            (λ l R. (l, tt, (e ∙ ap (λ (o : Option Why). read-by None o (read-answer (read-call (eight-ary (row (m .register) 1)) S (view-in m (table-in (c .slots))) a))) (check-passes l R), refl, refl)))
+          (λ l R. (l, tt, (e ∙ ap (λ (o : Option Why). read-by None o (read-answer (read-call (eight-ary (row (m .register) 1)) S (view-in m (table-in (c .slots))) a))) (check-passes l R), refl, refl)))
 
   -- A shut-down.
   pub shut-down-kept : Keeps S (world-in m c) shut-down nothing (cold-in m)

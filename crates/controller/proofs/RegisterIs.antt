@@ -89,15 +89,20 @@ module _ (h : ℕ) (m : Meaning) (F : Fits h m) (S : Scheme) (t : Table) (a c : 
         roots = (ap row (N .roots) ∙ roots-are n) i;
         dirty-sum = (N .sum-is ∙ f ∙ ap (sum-of (eight-ary h)) table) i;
         journal = journal i;
-        dirty = (dirty ∙ ap {B = ℕ → Bool} (λ (u : Table) p. is-dirty (u p)) table) i }
+        dirty = (dirty ∙ ap {B = ℕ → Bool} (λ (u : Table) p. is-dirty (u p)) table) i;
+      }
     where
       table : t′ ≡ raise-table (eight-ary h) depth (v .memory) t a c
       table = e ∙ raised-is
+
       lev : getD r 1 0 ≡ getD (m .register) 1 0
       lev = N .levels ∙ root-other 1 (inl (omega arith))
+
       small : a ≡ 18446744073709551615 → ⊥
       small x = omega (arith, lines-small h (F .low) (F .high))
+
       journal : journal-of (row r 12) r ≡ some (record { at = a; line = line-in l })
       journal = ap (λ x. journal-of x r) (N .at) ∙ ap (λ b. cond b none (some (record { at = a; line = journal-line r }))) (ne-eqb a 18446744073709551615 small) ∙ (λ i. some (record { at = a; line = record { words = row (N .body i); tag = N .tag i } }))
+
       dirty : dirty-of (row r 1) r ≡ (λ p. is-dirty (t′ p))
       dirty = ap (λ x. dirty-of x r) (lev ∙ sym (F .own)) ∙ ap {B = ℕ → Bool} (λ (w : List ℕ) p. leb (8 ^ h) p && eqb (getD w ((p - 8 ^ h) / 64) 0 / 2 ^ ((p - 8 ^ h) % 64) % 2) 1) (N .map) ∙ g

@@ -35,20 +35,29 @@ module _ (S : Scheme) (size : ℕ) (l : Log) (r : Run) (m m′ : Meaning) (t′ 
     where
       sum : n ≡ commits-in (W .done) (r .planned)
       sum = omega (arith, W .counted)
+
       go : (b : Bool) → ending (cond b (some (power-lost-at (W .done) (r .planned))) (r .ends)) (commits-in (W .done) (r .planned)) ≡ cond b (refused (power-lost-at (W .done) (r .planned)) (commits-in (W .done) (r .planned))) (ending (r .ends) (commits-in (W .done) (r .planned)))
       go true = refl
       go false = refl
 
   -- The run was made whole: the board is open still.
   pub ran-whole : length (r .planned) ≤ W .done → Ran size r (state-in m) l (ending o n) (world-by m′ None size t′) (log-after (W .done) (r .planned) l)
-  ran-whole h =
-      (W .done, (m′ .power), W .cut, says,
-        (λ i. record { board = W .left-is i; chip = (ap (λ (v : View). opened size (v .table)) (W .whole (omega (arith, at-most))) ∙ sym (ap (λ b. cond b (latched (power-lost-at (W .done) (r .planned))) (opened size (r .view .table))) (le-ltb (W .done) (length (r .planned)) h))) i }),
-        refl)
+  ran-whole h = (
+    W .done,
+    (m′ .power),
+    W .cut,
+    says,
+    (λ i. record { board = W .left-is i; chip = (ap (λ (v : View). opened size (v .table)) (W .whole (omega (arith, at-most))) ∙ sym (ap (λ b. cond b (latched (power-lost-at (W .done) (r .planned))) (opened size (r .view .table))) (le-ltb (W .done) (length (r .planned)) h))) i }),
+    refl,
+  )
 
   -- Power was lost: every call is refused alike from now on.
   pub ran-lost : (f : Fault) → o ≡ some (fault-of f) → W .done < length (r .planned) → Ran size r (state-in m) l (ending o n) (world-by m′ (Some f) size t′) (log-after (W .done) (r .planned) l)
-  ran-lost f g h =
-      (W .done, (m′ .power), W .cut, says,
-        (λ i. record { board = W .left-is i; chip = (ap latched (some-inj (sym g ∙ W .says ∙ ap (λ b. cond b (some (power-lost-at (W .done) (r .planned))) (r .ends)) (lt-ltb (W .done) (length (r .planned)) h))) ∙ sym (ap (λ b. cond b (latched (power-lost-at (W .done) (r .planned))) (opened size (r .view .table))) (lt-ltb (W .done) (length (r .planned)) h))) i }),
-        refl)
+  ran-lost f g h = (
+    W .done,
+    (m′ .power),
+    W .cut,
+    says,
+    (λ i. record { board = W .left-is i; chip = (ap latched (some-inj (sym g ∙ W .says ∙ ap (λ b. cond b (some (power-lost-at (W .done) (r .planned))) (r .ends)) (lt-ltb (W .done) (length (r .planned)) h))) ∙ sym (ap (λ b. cond b (latched (power-lost-at (W .done) (r .planned))) (opened size (r .view .table))) (lt-ltb (W .done) (length (r .planned)) h))) i }),
+    refl,
+  )

@@ -41,6 +41,7 @@ cut-one endless endless s e = absurd (apart e)
     code : Power → Type 0
     code endless = Unit {0}
     code (writes n) = ⊥
+
     apart : endless ≡ writes 0 → ⊥
     apart x = subst code x tt
 cut-one endless (writes q) s e = absurd (apart (sym s))
@@ -48,6 +49,7 @@ cut-one endless (writes q) s e = absurd (apart (sym s))
     code : Power → Type 0
     code endless = Unit {0}
     code (writes n) = ⊥
+
     apart : endless ≡ writes q → ⊥
     apart x = subst code x tt
 cut-one (writes p) endless s e = absurd s
@@ -63,7 +65,8 @@ cut-two endless q r s u = go q r s u
     code : Power → Type 0
     code endless = Unit {0}
     code (writes n) = ⊥
-    go : (q r : Power) → q ≡ endless → Spent q r → Cut ( endless) 2 2 r
+
+    go : (q r : Power) → q ≡ endless → Spent q r → Cut (endless) 2 2 r
     go endless endless s u = refl
     go endless (writes n) s u = absurd (subst code (sym u) tt)
     go (writes k) r s u = absurd (subst code (sym s) tt)
@@ -85,7 +88,8 @@ module _ (m : Meaning) (a : ℕ) (es : Log) (ws : List ℕ) (R : Register) (l : 
         says = refl;
         whole = λ e. absurd (omega arith);
         counted = omega arith;
-        lost = λ x f g. omega arith }
+        lost = λ x f g. omega arith;
+      }
 
   pub two-half : (m₁ m′ : Meaning) (t′ : Table) → RegisterWritten m ws (Ok tt) m₁ → LineWritten m₁ a l (Err PowerLost) m′ → (n : ℕ) → Went two m (some (fault power-lost a)) m′ t′ n (n + 1)
   unfolding after-writes place-of commits-in
@@ -97,7 +101,8 @@ module _ (m : Meaning) (a : ℕ) (es : Log) (ws : List ℕ) (R : Register) (l : 
         says = refl;
         whole = λ e. absurd (omega arith);
         counted = omega arith;
-        lost = λ x f g. omega arith }
+        lost = λ x f g. omega arith;
+      }
 
   pub two-done : (m₁ m′ : Meaning) → RegisterWritten m ws (Ok tt) m₁ → LineWritten m₁ a l (Ok tt) m′ → (n : ℕ) → Went two m none m′ t n (n + 1)
   unfolding after-writes place-of commits-in
@@ -112,4 +117,5 @@ module _ (m : Meaning) (a : ℕ) (es : Log) (ws : List ℕ) (R : Register) (l : 
         says = refl;
         whole = λ e i. record { memory = memory i; register = register i; table = t };
         counted = refl;
-        lost = λ x f g. absurd (none≢some f) }
+        lost = λ x f g. absurd (none≢some f);
+      }

@@ -52,11 +52,11 @@ module _ (h : ℕ) (S : Scheme) (m : Meaning) (t : Table) (a : ℕ) where
         go : (8 ^ h + a / 8 < lines-of h) ⊎ (lines-of h ≤ 8 ^ h + a / 8) → and-then (before-commit (eight-ary h) S cap v a) (λ u. commit (eight-ary h) S u (u .table) a b) ≡ write-at (eight-ary h) S (eight-ary h .depth (8 ^ h + a / 8)) cap v a b
         go (inl n) =
             ap (λ z. and-then (cond z (and-then (evict-overdue (eight-ary h) S v (8 ^ h + a / 8)) (λ u. make-room (eight-ary h) S cap (8 ^ h + a / 8) u (u .table (8 ^ h + a / 8)))) (stay v)) (λ u. commit (eight-ary h) S u (u .table) a b)) (lt-ltb (8 ^ h + a / 8) (lines-of h) n)
-              ∙ sym (ap (λ r. write-at (eight-ary h) S r cap v a b) (L .depth-parent (8 ^ h + a / 8) n))
+            ∙ sym (ap (λ r. write-at (eight-ary h) S r cap v a b) (L .depth-parent (8 ^ h + a / 8) n))
         go (inr n) =
             let e : 8 ^ h + a / 8 ≡ lines-of h = omega (arith, L .parent-in a (omega (arith, L .data-in))) in
             ap (λ z. and-then (cond z (and-then (evict-overdue (eight-ary h) S v (8 ^ h + a / 8)) (λ u. make-room (eight-ary h) S cap (8 ^ h + a / 8) u (u .table (8 ^ h + a / 8)))) (stay v)) (λ u. commit (eight-ary h) S u (u .table) a b)) (le-ltb (8 ^ h + a / 8) (lines-of h) n)
-              ∙ sym (ap (λ r. write-at (eight-ary h) S r cap v a b) (ap (eight-ary h .depth) e ∙ L .depth-root))
+            ∙ sym (ap (λ r. write-at (eight-ary h) S r cap v a b) (ap (eight-ary h .depth) e ∙ L .depth-root))
 
   same-overdue : (o : Option Slot) → overdue o ≡ overdue o
   same-overdue (some s) = refl
@@ -84,7 +84,7 @@ module _ (h : ℕ) (S : Scheme) (cap : ℕ) (m : Meaning) (t : Table) (a p : ℕ
   pub before-node : p < lines-of h → and-then (evict-overdue (eight-ary h) S (view-in m t) p) (λ u. make-room (eight-ary h) S cap p u (u .table p)) ≡ before-commit (eight-ary h) S cap (view-in m t) a
   before-node n =
       ap (λ x. and-then (evict-overdue (eight-ary h) S (view-in m t) x) (λ u. make-room (eight-ary h) S cap x u (u .table x))) q
-        ∙ sym (ap (λ z. cond z (and-then (evict-overdue (eight-ary h) S (view-in m t) (8 ^ h + a / 8)) (λ u. make-room (eight-ary h) S cap (8 ^ h + a / 8) u (u .table (8 ^ h + a / 8)))) (stay (view-in m t))) (lt-ltb (8 ^ h + a / 8) (lines-of h) (subst (λ x. x < lines-of h) q n)))
+      ∙ sym (ap (λ z. cond z (and-then (evict-overdue (eight-ary h) S (view-in m t) (8 ^ h + a / 8)) (λ u. make-room (eight-ary h) S cap (8 ^ h + a / 8) u (u .table (8 ^ h + a / 8)))) (stay (view-in m t))) (lt-ltb (8 ^ h + a / 8) (lines-of h) (subst (λ x. x < lines-of h) q n)))
 
   pub room-dirty : true ≡ is-dirty (t p) → stay (view-in m t) ≡ make-room (eight-ary h) S cap p (view-in m t) (t p)
   room-dirty e = go (t p) e
