@@ -13,4 +13,5 @@ mod EvictTurns
 mod WriteSteps
 mod FormatWrites
 mod Keeping
+mod FromOutside
 mod Doing

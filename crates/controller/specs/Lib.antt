@@ -2,3 +2,4 @@ pub mod Views
 pub mod Runs
 pub mod Registers
 pub mod Worlds
+pub mod Outside

@@ -4,4 +4,5 @@ pub mod cold;
 mod counters;
 pub mod faults;
 pub mod open;
+pub mod outside;
 pub mod types;
