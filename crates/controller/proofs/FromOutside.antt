@@ -36,7 +36,8 @@ put-state m m′ a l (h, e, r, p) =
       memory = (ap memory-in e ∙ mem-set (m .lines) a l h) i;
       size = (ap length e ∙ length-set (m .lines) a l) i;
       register = ap register-in r i;
-      power = p i }
+      power = p i;
+    }
 
 pub open-tampered : (S : Scheme) (m m′ : Meaning) (c c′ : Chip) (a : ℕ) (l : Stored) (b : Bool) → c′ ≡ c → LinePut m a l b m′ → Tampers S (world-in m c) a (line-in l) b (world-in m′ c′)
 open-tampered S m m′ c c′ a l true k p = go (c .latched) (ap (world-in m′) k)

@@ -14,4 +14,5 @@ mod WriteSteps
 mod FormatWrites
 mod Keeping
 mod FromOutside
+mod ScriptSteps
 mod Doing

@@ -3,3 +3,4 @@ pub mod Runs
 pub mod Registers
 pub mod Worlds
 pub mod Outside
+pub mod Scripts

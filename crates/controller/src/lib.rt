@@ -2,6 +2,7 @@
 pub mod chip;
 pub mod cold;
 mod counters;
+pub mod event;
 pub mod faults;
 pub mod open;
 pub mod outside;

@@ -8,4 +8,5 @@ returns g c =
     record {
       law = λ K. cold-recharged K (g .B·Board .meaning (c .args .self .now .board)) (g .B·Board .meaning (c .recharge .last .self)) (lesser (c .args .left) (g .B·Recharge .supply (c .args .self .now .board))) (p .0) (p .1) (p .2);
       power = p;
-      supply = c .recharge .ensures .supply }
+      supply = c .recharge .ensures .supply;
+    }

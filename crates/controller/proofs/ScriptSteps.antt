@@ -1,0 +1,50 @@
+-- Traces one after another.
+use Prim.Native.Nat.{ℕ}
+use mathlib.Core.Path.{_≡_, refl, sym, ap, _∙_, subst}
+use mathlib.Core.List.{List, [], _∷_, _++_, append-nil, append-assoc}
+use Rattle.suite.specs.Scheme.{Scheme}
+use Rattle.machine.specs.Layout.{eight-ary}
+use Rattle.machine.specs.Store.{Log}
+use Rattle.machine.specs.History.{World, Answer, Fair, Reached}
+use Rattle.machine.specs.History.{Event as Happening}
+use Rattle.machine.specs.Laws.{No-reuse}
+use Rattle.controller.specs.declared.event.Event.{Event}
+use Rattle.controller.specs.declared.event.Reply.{Reply}
+use Rattle.controller.specs.Worlds.{Goes-on, Keeps}
+use Rattle.controller.specs.Outside.{Keeps-fair}
+use Rattle.controller.specs.Scripts.{Trace, Goes-through, Keeps-through, Traces, Plays-one, All-traces, Plays}
+
+module _ (S : Scheme) where
+  -- Nothing happened.
+  pub through-none : (w : World) → Keeps-through S w [] w
+  through-none w l R o = (refl, R, o)
+
+  -- One event that its premise allows.
+  pub through-fair : (w : World) (e : Happening) (x : Answer) (w′ : World) → Keeps-fair S w e x w′ → Keeps-through S w ((e, x) ∷ []) w′
+  through-fair w e x w′ k l R o = (w′, λ f. let (l₁, g) = k l R f in (l₁, g, (refl, g .reached, g .once)))
+
+  -- One event.
+  pub through-one : (w : World) (e : Happening) (x : Answer) (w′ : World) → Keeps S w e x w′ → Keeps-through S w ((e, x) ∷ []) w′
+  through-one w e x w′ k = through-fair w e x w′ (λ l R f. k l R)
+
+  joins : (w : World) (l : Log) (t u : Trace) (w₁ w₂ : World) → Goes-through S w l t w₁ → Keeps-through S w₁ u w₂ → Goes-through S w l (t ++ u) w₂
+  joins w l [] u w₁ w₂ (e, R, o) k = subst (λ (v : World). Reached eight-ary S v l → Goes-through S v l u w₂) e (λ R₁. k l R₁ o) R
+  joins w l (p ∷ t) u w₁ w₂ (v, f) k = (v, λ q. let (l₁, g, r) = f q in (l₁, g, joins v l₁ t u w₁ w₂ r k))
+
+  -- One trace, then another.
+  pub through-then : (w w₁ w₂ : World) (t u : Trace) → Keeps-through S w t w₁ → Keeps-through S w₁ u w₂ → Keeps-through S w (t ++ u) w₂
+  through-then w w₁ w₂ t u a b l R o = joins w l t u w₁ w₂ (a l R o) b
+
+  -- No event was played.
+  pub plays-none : (cap : ℕ) (w : World) → Plays S cap w [] [] w
+  plays-none cap w = ([], refl, through-none w)
+
+  one-more : (cap num : ℕ) (es : List Event) (rs : List Reply) (t : Trace) (e : Event) (r : Reply) (u : Trace) → All-traces cap num es rs t → Traces cap num e r u → All-traces cap num (es ++ e ∷ []) (rs ++ r ∷ []) (t ++ u)
+  one-more cap num [] [] t e r u a b = (u, [], ap (λ x. x ++ u) a ∙ sym (append-nil u), b, refl)
+  one-more cap num [] (s ∷ rs) t e r u a b = absurd a
+  one-more cap num (f ∷ es) [] t e r u a b = absurd a
+  one-more cap num (f ∷ es) (s ∷ rs) t e r u (t₁, t₂, q, c, a) b = (t₁, t₂ ++ u, ap (λ x. x ++ u) q ∙ append-assoc t₁ t₂ u, c, one-more cap num es rs t₂ e r u a b)
+
+  -- One event more.
+  pub plays-more : (cap : ℕ) (w w₁ w₂ : World) (es : List Event) (rs : List Reply) (e : Event) (r : Reply) → Plays S cap w es rs w₁ → Plays-one S cap w₁ e r w₂ → Plays S cap w (es ++ e ∷ []) (rs ++ r ∷ []) w₂
+  plays-more cap w w₁ w₂ es rs e r (t, a, k) (u, b, n) = (t ++ u, one-more cap (S .number) es rs t e r u a b, through-then w w₁ w₂ t u k n)
