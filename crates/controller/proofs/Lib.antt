@@ -1,0 +1,16 @@
+mod SlotFacts
+mod Chains
+mod TwoWrites
+mod RunEvents
+mod CounterSteps
+mod ReadSteps
+mod CommitParts
+mod JournalWords
+mod RegisterIs
+mod CommitWrites
+mod EvictSteps
+mod EvictTurns
+mod WriteSteps
+mod FormatWrites
+mod Keeping
+mod Doing

@@ -1,0 +1,4 @@
+pub mod Views
+pub mod Runs
+pub mod Registers
+pub mod Worlds

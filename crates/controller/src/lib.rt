@@ -1,0 +1,7 @@
+// The controller of a board of untrusted memory: cold and open boards and their calls.
+pub mod chip;
+pub mod cold;
+mod counters;
+pub mod faults;
+pub mod open;
+pub mod types;
