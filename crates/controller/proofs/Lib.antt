@@ -14,3 +14,5 @@ mod WriteSteps
 mod FormatWrites
 mod Keeping
 mod Doing
+mod RestoreNode
+mod RestoreSteps
