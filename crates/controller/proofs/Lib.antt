@@ -16,3 +16,5 @@ mod Keeping
 mod Doing
 mod RestoreNode
 mod RestoreSteps
+mod RegisterChecks
+mod BringUpSteps

@@ -55,6 +55,11 @@ abbrev pub Brought : Scheme → ℕ → Meaning → Result Chip Fault → Meanin
 Brought S cap m (Ok c) m′ = Brings-up S cap m (done 0) m′ (world-in m′ c) × (c .latched ≡ None) × (c .slots .layout .levels ≡ row (m .register) 1)
 Brought S cap m (Err f) m′ = Brings-up S cap m (refused (fault-of f) 0) m′ (record { board = state-in m′; chip = latched (fault-of f) })
 
+-- The chip of an open board or one with the fault latched, and the answer.
+abbrev pub Settled : Result Chip Fault → Chip → Result (Unit {0}) Fault → Type 0
+Settled (Ok c) c′ r = (c′ ≡ c) × (r ≡ Ok tt)
+Settled (Err f) c′ r = (c′ .latched ≡ Some f) × (r ≡ Err f)
+
 -- The chip that a bring-up leaves: its slots are of the board's levels, or the fault is latched.
 abbrev pub Chip-left : Meaning → Result (Unit {0}) Fault → Chip → Type 0
 Chip-left m (Ok _) c = (c .latched ≡ None) × (c .slots .layout .levels ≡ row (m .register) 1)

@@ -1,6 +1,6 @@
 ghost use mathlib.Core.Path.{_≡_};
-ghost use Prim.Native.Nat.{ℕ, _≤_};
 ghost use mathlib.Core.Bool.{true};
+ghost use Rattle.std.specs.declared.option.Option.the-variants.{Some as Just};
 ghost use Rattle.machine.specs.Words.{register-in, state-in};
 ghost use Rattle.machine.specs.Layout.{eight-ary};
 ghost use Rattle.machine.specs.Encoding.{journal-meant};
@@ -8,7 +8,7 @@ ghost use Rattle.machine.specs.History.{journal-in, bring-up-check, bring-up as
 ghost use Rattle.controller.specs.Views.{Fits};
 ghost use Rattle.controller.specs.Runs.{ended};
 ghost use Rattle.controller.specs.Worlds.{world-in, cold-in, report-by, Keeps};
-ghost use Rattle.controller.specs.BringUps.{Checked, Written-back, Brings-up, Brought, Chip-left, Keeps-others};
+ghost use Rattle.controller.specs.BringUps.{Checked, Written-back, Brings-up, Brought, Settled, Chip-left, Keeps-others};
 use crate::chip::Chip;
 use crate::cold::Cold;
 use crate::faults::FaultFromTree;
@@ -85,4 +85,42 @@ fn open_chip<B: Board, S: Suite>(board: &mut B, suite: &S, slots: u64) -> Result
         capacity: slots as usize,
         latched: None,
     })
+}
+
+// The chip of a refused bring-up: it answers every call but shut-down with the fault.
+fn latched_chip(fault: Fault) -> Chip
+    ensures { λ r. ⌜ r .latched ≡ Just fault ⌝ }
+{
+    Chip {
+        slots: Slots::new(Layout::one_level()),
+        capacity: 1,
+        latched: Some(fault),
+    }
+}
+
+// The chip that a bring-up leaves, and its answer.
+fn settled(opened: Result<Chip, Fault>) -> (Chip, Result<(), Fault>)
+    ensures { λ r. ⌜ Settled opened (r .0) (r .1) ⌝ }
+{
+    match opened {
+        Ok(chip) => (chip, Ok(())),
+        Err(fault) => (latched_chip(fault), Err(fault)),
+    }
+}
+
+impl<B: Board> Cold<B> {
+    // Brings the board up with so many slots. A refused bring-up gives an open board that answers every call but shut-down with the fault.
+    pub fn bring_up<S: Suite>(self, suite: S, slots: u64) -> (Open<B, S>, Result<(), Fault>)
+        ensures law { λ r. ⌜ Keeps (S·Suite .scheme suite) (cold-in (B·Board .meaning (self .board))) (bringing-up slots (S·Suite .scheme suite .number)) (report-by (r .1) 0) (world-in (B·Board .meaning (r .0 .board)) (r .0 .chip)) ⌝ }
+        ensures others { λ r. ⌜ Keeps-others (S·Suite .scheme suite) slots (B·Board .meaning (self .board)) (report-by (r .1) 0) (world-in (B·Board .meaning (r .0 .board)) (r .0 .chip)) ⌝ }
+        ensures does { λ r. ⌜ Brings-up (S·Suite .scheme suite) slots (B·Board .meaning (self .board)) (report-by (r .1) 0) (B·Board .meaning (r .0 .board)) (world-in (B·Board .meaning (r .0 .board)) (r .0 .chip)) ⌝ }
+        ensures chip { λ r. ⌜ Chip-left (B·Board .meaning (self .board)) (r .1) (r .0 .chip) ⌝ }
+        ensures suite { λ r. ⌜ r .0 .suite ≡ suite ⌝ }
+    {
+        let Cold { board } = self;
+        let mut board = board;
+        let opened = open_chip(&mut board, &suite, slots);
+        let (chip, answer) = settled(opened);
+        (Open { board, suite, chip }, answer)
+    }
 }

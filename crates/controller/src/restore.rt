@@ -1,7 +1,7 @@
 ghost use mathlib.Core.Path.{_≡_};
 ghost use Prim.Native.Nat.{ℕ, _<_, _≤_};
 ghost use Rattle.machine.specs.Words.{row, line-in, memory-in, register-in};
-ghost use Rattle.machine.specs.Plans.{restore-node, restore as restore-plan, recover as recover-plan};
+ghost use Rattle.machine.specs.Plans.{map-count, restore-node, restore as restore-plan, recover as recover-plan};
 ghost use Rattle.tree.specs.Layouts.{shape-in};
 ghost use Rattle.tree.specs.SlotTable.{table-in, no-slots, map-in};
 ghost use Rattle.controller.specs.Views.{view-in, Fits};
@@ -130,7 +130,7 @@ pub(crate) fn recover<B: Board, S: Suite>(
     suite: &S,
     layout: Layout,
 ) -> Result<Slots, TreeFault>
-    requires { ⌜ Fits (layout .levels) (B·Board .meaning (now board)) ⌝ ∗ ⌜ map-below (shape-in layout .lines) (register-in (B·Board .meaning (now board) .register)) ≤ 64 ⌝ }
+    requires { ⌜ Fits (layout .levels) (B·Board .meaning (now board)) ⌝ ∗ ⌜ map-count (shape-in layout) (register-in (B·Board .meaning (now board) .register)) ≤ 64 ⌝ }
     ensures { λ r. ⌜ Recovers (recover-plan (shape-in layout) (S·Suite .scheme (now (suite .entry))) (memory-in (B·Board .meaning (now (board .entry)) .lines)) (register-in (B·Board .meaning (now (board .entry)) .register))) layout r ⌝ }
 {
     let register = Register::decode(&board.read_register());

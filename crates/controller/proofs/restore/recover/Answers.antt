@@ -2,7 +2,7 @@ use borrow.Author.Needs.{needs}
 use mathlib.Core.Path.{_≡_, refl, sym, ap, _∙_}
 use Rattle.std.proofs.shelf.Results.{err-from-errBy}
 use Rattle.machine.specs.Words.{register-in}
-use Rattle.machine.specs.Plans.{sum-of}
+use Rattle.machine.specs.Plans.{map-count, sum-of}
 use Rattle.tree.specs.Layouts.{shape-in}
 use Rattle.tree.specs.SlotTable.{table-in}
 use Rattle.tree.specs.declared.types.Layout.{Layout}
@@ -11,6 +11,7 @@ use Rattle.controller.proofs.RestoreSteps.{recover-err, recover-missed, recove
 use Rattle.controller.proofs.restore.recover.Needs as need
 
 pub restore-requires : need.restore-requires
+unfolding map-count
 restore-requires g c κs =
     let M = g .B·Board .meaning (c .args .board .now) in
     let q = c .decode-register .ensures .meaning ∙ ap register-in (c .read-register .ensures) in
