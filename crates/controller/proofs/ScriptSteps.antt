@@ -48,3 +48,17 @@ module _ (S : Scheme) where
   -- One event more.
   pub plays-more : (cap : ℕ) (w w₁ w₂ : World) (es : List Event) (rs : List Reply) (e : Event) (r : Reply) → Plays S cap w es rs w₁ → Plays-one S cap w₁ e r w₂ → Plays S cap w (es ++ e ∷ []) (rs ++ r ∷ []) w₂
   plays-more cap w w₁ w₂ es rs e r (t, a, k) (u, b, n) = (t ++ u, one-more cap (S .number) es rs t e r u a b, through-then w w₁ w₂ t u k n)
+
+  -- An event with its answer said in another way.
+  pub said-as : (w : World) (e : Happening) (x y : Answer) (w′ : World) → y ≡ x → Keeps S w e x w′ → Keeps S w e y w′
+  said-as w e x y w′ q = subst (λ (z : Answer). Keeps S w e z w′) (sym q)
+
+  -- Two events in a row.
+  pub two-events : (w w₁ w₂ : World) (e f : Happening) (x y z : Answer) → Keeps S w e x w₁ → Keeps S w₁ f y w₂ → z ≡ y → Keeps-through S w ((e, x) ∷ (f, z) ∷ []) w₂
+  two-events w w₁ w₂ e f x y z a b q =
+      through-then w w₁ w₂ ((e, x) ∷ []) ((f, z) ∷ []) (through-one w e x w₁ a) (through-one w₁ f z w₂ (said-as w₁ f y z w₂ q b))
+
+  -- Three.
+  pub three-events : (w w₁ w₂ w₃ : World) (d e f : Happening) (v x y z : Answer) → Keeps S w d v w₁ → Keeps S w₁ e x w₂ → Keeps S w₂ f y w₃ → z ≡ y → Keeps-through S w ((d, v) ∷ (e, x) ∷ (f, z) ∷ []) w₃
+  three-events w w₁ w₂ w₃ d e f v x y z a b c q =
+      through-then w w₁ w₃ ((d, v) ∷ []) ((e, x) ∷ (f, z) ∷ []) (through-one w d v w₁ a) (two-events w₁ w₂ w₃ e f x y z b c q)

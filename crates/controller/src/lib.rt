@@ -8,4 +8,5 @@ pub mod faults;
 pub mod open;
 pub mod outside;
 mod restore;
+pub mod script;
 pub mod types;
