@@ -1,17 +1,22 @@
 -- Traces one after another.
 use Prim.Native.Nat.{ℕ}
+use mathlib.Core.Bool.{Bool, true, false}
 use mathlib.Core.Path.{_≡_, refl, sym, ap, _∙_, subst}
 use mathlib.Core.List.{List, [], _∷_, _++_, append-nil, append-assoc}
 use Rattle.suite.specs.Scheme.{Scheme}
 use Rattle.machine.specs.Layout.{eight-ary}
 use Rattle.machine.specs.Store.{Log}
-use Rattle.machine.specs.History.{World, Answer, Fair, Reached}
+use Rattle.board.specs.declared.types.Line.{Line as Stored}
+use Rattle.machine.specs.Words.{line-in}
+use Rattle.machine.specs.History.{World, tamper, Answer, nothing, Fair, Reached}
 use Rattle.machine.specs.History.{Event as Happening}
 use Rattle.machine.specs.Laws.{No-reuse}
 use Rattle.controller.specs.declared.event.Event.{Event}
+use Rattle.controller.specs.declared.event.Event.the-variants.{Tamper}
 use Rattle.controller.specs.declared.event.Reply.{Reply}
+use Rattle.controller.specs.declared.event.Reply.the-variants.{Put}
 use Rattle.controller.specs.Worlds.{Goes-on, Keeps}
-use Rattle.controller.specs.Outside.{Keeps-fair}
+use Rattle.controller.specs.Outside.{Keeps-fair, Tampers}
 use Rattle.controller.specs.Scripts.{Trace, Goes-through, Keeps-through, Traces, Plays-one, All-traces, Plays}
 
 module _ (S : Scheme) where
@@ -62,3 +67,8 @@ module _ (S : Scheme) where
   pub three-events : (w w₁ w₂ w₃ : World) (d e f : Happening) (v x y z : Answer) → Keeps S w d v w₁ → Keeps S w₁ e x w₂ → Keeps S w₂ f y w₃ → z ≡ y → Keeps-through S w ((d, v) ∷ (e, x) ∷ (f, z) ∷ []) w₃
   three-events w w₁ w₂ w₃ d e f v x y z a b c q =
       through-then w w₁ w₃ ((d, v) ∷ []) ((e, x) ∷ (f, z) ∷ []) (through-one w d v w₁ a) (two-events w₁ w₂ w₃ e f x y z b c q)
+
+  -- A line put in place from outside, or one without a place.
+  pub puts-one : (cap : ℕ) (w w′ : World) (a : ℕ) (l : Stored) (b : Bool) → Tampers S w a (line-in l) b w′ → Plays-one S cap w (Tamper a l) (Put b) w′
+  puts-one cap w w′ a l true k = (_, refl, through-fair w (tamper a (line-in l)) nothing w′ k)
+  puts-one cap w w′ a l false k = ([], refl, λ m R o. (k, R, o))
