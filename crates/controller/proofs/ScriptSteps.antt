@@ -72,3 +72,7 @@ module _ (S : Scheme) where
   pub puts-one : (cap : ℕ) (w w′ : World) (a : ℕ) (l : Stored) (b : Bool) → Tampers S w a (line-in l) b w′ → Plays-one S cap w (Tamper a l) (Put b) w′
   puts-one cap w w′ a l true k = (_, refl, through-fair w (tamper a (line-in l)) nothing w′ k)
   puts-one cap w w′ a l false k = ([], refl, λ m R o. (k, R, o))
+
+  -- One event as a trace, with its answer said in another way.
+  pub one-event : (w : World) (e : Happening) (x y : Answer) (w′ : World) → Keeps S w e x w′ → y ≡ x → Keeps-through S w ((e, y) ∷ []) w′
+  one-event w e x y w′ k q = through-one w e y w′ (said-as w e x y w′ q k)

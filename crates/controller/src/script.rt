@@ -1,10 +1,10 @@
 // Scripts: many events in a row on one board that a program can also reach from outside.
 ghost use mathlib.Core.Path.{_≡_};
 ghost use Prim.Native.Nat.{ℕ, min};
-ghost use lib.ListN.{length, take};
-ghost use Rattle.controller.specs.Worlds.{world-in, report-by};
+ghost use lib.ListN.{length, take, drop};
+ghost use Rattle.controller.specs.Worlds.{world-in, read-in, report-by};
 ghost use Rattle.controller.specs.Scripts.{answer-in, Plays-one, Plays};
-ghost use Rattle.controller.specs.declared.event.Event.the-variants.{Restart, Recharge as Recharging, Tamper as Tampering};
+ghost use Rattle.controller.specs.declared.event.Event.the-variants.{Read as Reading, Write as Writing, Flush as Flushing, Restart, Recharge as Recharging, Tamper as Tampering};
 use crate::event::Event;
 use crate::event::Reply;
 use crate::open::Open;
@@ -24,7 +24,45 @@ fn reply(outcome: Result<(), Fault>, commits: u64) -> Reply
     }
 }
 
+// What a read answered.
+fn read_reply(outcome: Result<(), Fault>, body: &[u64; 8]) -> Reply
+    ensures { λ r. ⌜ answer-in r ≡ read-in outcome (now (body .entry)) ⌝ }
+{
+    match outcome {
+        Ok(_) => Reply::Body(*body),
+        Err(fault) => Reply::Refused(fault, 0),
+    }
+}
+
 impl<B: Tamper + Recharge, S: Suite + Copy> Open<B, S> {
+    // Reads the body at an address.
+    fn play_read(self, at: usize) -> (Open<B, S>, Reply)
+        ensures plays { λ r. ⌜ ((n : ℕ) → Plays-one (S·Suite .scheme (self .suite)) n (world-in (B·Board .meaning (self .board)) (self .chip)) (Reading at) (r .1) (world-in (B·Board .meaning (r .0 .board)) (r .0 .chip))) ⌝ }
+        ensures suite { λ r. ⌜ r .0 .suite ≡ self .suite ⌝ }
+    {
+        let mut body = [0; 8];
+        let outcome = self.read(at, &mut body);
+        (self, read_reply(outcome, &body))
+    }
+
+    // Writes a body at an address.
+    fn play_write(mut self, at: usize, body: &[u64; 8]) -> (Open<B, S>, Reply)
+        ensures plays { λ r. ⌜ ((n : ℕ) → Plays-one (S·Suite .scheme (self .suite)) n (world-in (B·Board .meaning (self .board)) (self .chip)) (Writing at (now (body .entry))) (r .1) (world-in (B·Board .meaning (r .0 .board)) (r .0 .chip))) ⌝ }
+        ensures suite { λ r. ⌜ r .0 .suite ≡ self .suite ⌝ }
+    {
+        let report = self.write(at, body);
+        (self, reply(report.outcome, report.commits))
+    }
+
+    // Evicts every dirty node.
+    fn play_flush(mut self) -> (Open<B, S>, Reply)
+        ensures plays { λ r. ⌜ ((n : ℕ) → Plays-one (S·Suite .scheme (self .suite)) n (world-in (B·Board .meaning (self .board)) (self .chip)) Flushing (r .1) (world-in (B·Board .meaning (r .0 .board)) (r .0 .chip))) ⌝ }
+        ensures suite { λ r. ⌜ r .0 .suite ≡ self .suite ⌝ }
+    {
+        let report = self.flush();
+        (self, reply(report.outcome, report.commits))
+    }
+
     // Shuts the board down and brings it up again.
     fn restart(self, slots: u64) -> (Open<B, S>, Reply)
         ensures plays { λ r. ⌜ Plays-one (S·Suite .scheme (self .suite)) slots (world-in (B·Board .meaning (self .board)) (self .chip)) Restart (r .1) (world-in (B·Board .meaning (r .0 .board)) (r .0 .chip)) ⌝ }
@@ -54,5 +92,35 @@ impl<B: Tamper + Recharge, S: Suite + Copy> Open<B, S> {
     {
         let placed = self.tamper(at, line);
         (self, Reply::Put(placed))
+    }
+
+    // One event of a script, on a board with so many slots.
+    pub fn run(self, slots: u64, event: &Event) -> (Open<B, S>, Reply)
+        ensures plays { λ r. ⌜ Plays-one (S·Suite .scheme (self .suite)) slots (world-in (B·Board .meaning (self .board)) (self .chip)) (now (event .entry)) (r .1) (world-in (B·Board .meaning (r .0 .board)) (r .0 .chip)) ⌝ }
+        ensures suite { λ r. ⌜ r .0 .suite ≡ self .suite ⌝ }
+    {
+        match event {
+            Event::Read(at) => self.play_read(*at),
+            Event::Write(at, body) => self.play_write(*at, body),
+            Event::Flush => self.play_flush(),
+            Event::Restart => self.restart(slots),
+            Event::Recharge(left) => self.restart_with(slots, *left),
+            Event::Tamper(at, line) => self.put_line(*at, *line),
+        }
+    }
+
+    // Runs events one after another, as many as there is room for replies. Each finds what came before.
+    pub fn run_script(self, slots: u64, events: &[Event], replies: &mut [Reply]) -> Open<B, S>
+        ensures plays { λ r. ⌜ Plays (S·Suite .scheme (self .suite)) slots (world-in (B·Board .meaning (self .board)) (self .chip)) (take (min (length (now (events .entry))) (length (now (replies .entry)))) (now (events .entry))) (take (min (length (now (events .entry))) (length (now (replies .entry)))) (now (replies .exit))) (world-in (B·Board .meaning (r .board)) (r .chip)) ⌝ }
+        ensures rest { λ _. ⌜ drop (length (now (events .entry))) (now (replies .exit)) ≡ drop (length (now (events .entry))) (now (replies .entry)) ⌝ }
+        ensures suite { λ r. ⌜ r .suite ≡ self .suite ⌝ }
+    {
+        let mut current = self;
+        for i in 0..events.len().min(replies.len()) {
+            let (next, reply) = current.run(slots, &events[i]);
+            replies[i] = reply;
+            current = next;
+        }
+        current
     }
 }
