@@ -14,3 +14,4 @@ mod WriteSteps
 mod FormatWrites
 mod Keeping
 mod Doing
+mod LayoutChecks

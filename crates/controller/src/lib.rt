@@ -5,5 +5,7 @@ mod commit;
 mod counters;
 mod evict;
 pub mod faults;
+mod latch;
 pub mod open;
 pub mod types;
+mod write;
