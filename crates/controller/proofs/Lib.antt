@@ -20,3 +20,4 @@ mod RestoreNode
 mod RestoreSteps
 mod RegisterChecks
 mod BringUpSteps
+mod LayoutChecks

@@ -52,6 +52,11 @@ world-in m c = world-by m (c .latched) (c .capacity) (table-in (c .slots))
 abbrev pub cold-in : Meaning → World
 cold-in m = record { board = state-in m; chip = cold }
 
+-- A body as an answer.
+abbrev pub body-answer : Result (List ℕ) Fault → Answer
+body-answer (Ok ws) = body-is (row ws)
+body-answer (Err f) = refused (fault-of f) 0
+
 -- A read's answer, with what it left in the caller's words.
 abbrev pub read-in : Result (Unit {0}) Fault → List ℕ → Answer
 read-in (Ok _) ws = body-is (row ws)
