@@ -1,5 +1,8 @@
 -- Traces one after another.
-use Prim.Native.Nat.{ℕ}
+use Prim.Native.Nat.{ℕ, _+_, _-_, _≤_, _<_}
+use native.Mathlib.Omega.{arith}
+use lib.ListN.{length, getD, set, take, drop}
+use Rattle.std.proofs.shelf.Lists.{take-more, take-more-set, drop-set-lt, drop-drop}
 use mathlib.Core.Bool.{Bool, true, false}
 use mathlib.Core.Path.{_≡_, refl, sym, ap, _∙_, subst}
 use mathlib.Core.List.{List, [], _∷_, _++_, append-nil, append-assoc}
@@ -76,3 +79,20 @@ module _ (S : Scheme) where
   -- One event as a trace, with its answer said in another way.
   pub one-event : (w : World) (e : Happening) (x y : Answer) (w′ : World) → Keeps S w e x w′ → y ≡ x → Keeps-through S w ((e, y) ∷ []) w′
   one-event w e x y w′ k q = through-one w e y w′ (said-as w e x y w′ q k)
+
+  -- Event i of a script, its reply put in place.
+  pub script-more : (cap : ℕ) (w w₁ w₂ : World) (es : List Event) (rs : List Reply) (i : ℕ) (e d : Event) (r : Reply) → i < length es → i < length rs → e ≡ getD es i d → Plays S cap w (take i es) (take i rs) w₁ → Plays-one S cap w₁ e r w₂ → Plays S cap w (take (i + 1) es) (take (i + 1) (set rs i r)) w₂
+  script-more cap w w₁ w₂ es rs i e d r h k q a b =
+      let s : take i es ++ e ∷ [] ≡ take (i + 1) es = ap (λ x. take i es ++ x ∷ []) q ∙ sym (take-more es i d h) in
+      let t : take i rs ++ r ∷ [] ≡ take (i + 1) (set rs i r) = sym (take-more-set rs i r k) in
+      subst (λ (x : List Reply). Plays S cap w (take (i + 1) es) x w₂) t (subst (λ (x : List Event). Plays S cap w x (take i rs ++ r ∷ []) w₂) s (plays-more cap w w₁ w₂ (take i es) (take i rs) e r a b))
+
+-- Lists that agree behind a place agree behind a later one.
+pub dropped-all : (rs ss : List Reply) (i n : ℕ) → i ≤ n → drop i rs ≡ drop i ss → drop n rs ≡ drop n ss
+dropped-all rs ss i n h e =
+    let k : i + (n - i) ≡ n = omega arith in
+    ap (λ m. drop m rs) (sym k) ∙ sym (drop-drop (n - i) i rs) ∙ ap (drop (n - i)) e ∙ drop-drop (n - i) i ss ∙ ap (λ m. drop m ss) k
+
+-- What lies behind place i is not touched.
+pub dropped-more : (rs ss : List Reply) (i : ℕ) (r : Reply) → drop i rs ≡ drop i ss → drop (i + 1) (set rs i r) ≡ drop (i + 1) ss
+dropped-more rs ss i r e = drop-set-lt (i + 1) rs i r (omega arith) ∙ dropped-all rs ss i (i + 1) (omega arith) e

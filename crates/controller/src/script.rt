@@ -1,7 +1,7 @@
 // Scripts: many events in a row on one board that a program can also reach from outside.
 ghost use mathlib.Core.Path.{_≡_};
-ghost use Prim.Native.Nat.{ℕ, min};
-ghost use lib.ListN.{length, take, drop};
+ghost use Prim.Native.Nat.{ℕ, _<_, min};
+ghost use lib.ListN.{length, getD, take, drop};
 ghost use Rattle.controller.specs.Worlds.{world-in, read-in, report-by};
 ghost use Rattle.controller.specs.Scripts.{answer-in, Plays-one, Plays};
 ghost use Rattle.controller.specs.declared.event.Event.the-variants.{Read as Reading, Write as Writing, Flush as Flushing, Restart, Recharge as Recharging, Tamper as Tampering};
@@ -109,6 +109,15 @@ impl<B: Tamper + Recharge, S: Suite + Copy> Open<B, S> {
         }
     }
 
+    // Event `i` of a script.
+    fn run_at(self, slots: u64, events: &[Event], i: usize) -> (Open<B, S>, Reply)
+        requires { ⌜ i < length (now events) ⌝ }
+        ensures plays { λ r. ⌜ Plays-one (S·Suite .scheme (self .suite)) slots (world-in (B·Board .meaning (self .board)) (self .chip)) (getD (now (events .entry)) i (Reading 0)) (r .1) (world-in (B·Board .meaning (r .0 .board)) (r .0 .chip)) ⌝ }
+        ensures suite { λ r. ⌜ r .0 .suite ≡ self .suite ⌝ }
+    {
+        self.run(slots, &events[i])
+    }
+
     // Runs events one after another, as many as there is room for replies. Each finds what came before.
     pub fn run_script(self, slots: u64, events: &[Event], replies: &mut [Reply]) -> Open<B, S>
         ensures plays { λ r. ⌜ Plays (S·Suite .scheme (self .suite)) slots (world-in (B·Board .meaning (self .board)) (self .chip)) (take (min (length (now (events .entry))) (length (now (replies .entry)))) (now (events .entry))) (take (min (length (now (events .entry))) (length (now (replies .entry)))) (now (replies .exit))) (world-in (B·Board .meaning (r .board)) (r .chip)) ⌝ }
@@ -117,7 +126,7 @@ impl<B: Tamper + Recharge, S: Suite + Copy> Open<B, S> {
     {
         let mut current = self;
         for i in 0..events.len().min(replies.len()) {
-            let (next, reply) = current.run(slots, &events[i]);
+            let (next, reply) = current.run_at(slots, events, i);
             replies[i] = reply;
             current = next;
         }
