@@ -5,6 +5,7 @@ mod commit;
 mod counters;
 mod evict;
 pub mod faults;
+mod format;
 mod latch;
 pub mod open;
 pub mod types;
