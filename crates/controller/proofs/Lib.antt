@@ -15,3 +15,7 @@ mod FormatWrites
 mod Keeping
 mod Doing
 mod LayoutChecks
+mod RestoreNode
+mod RestoreSteps
+mod RegisterChecks
+mod BringUpSteps

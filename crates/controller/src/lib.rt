@@ -1,4 +1,5 @@
 // The controller of a board of untrusted memory: cold and open boards and their calls.
+mod bring_up;
 pub mod chip;
 pub mod cold;
 mod commit;
@@ -8,5 +9,6 @@ pub mod faults;
 mod format;
 mod latch;
 pub mod open;
+mod restore;
 pub mod types;
 mod write;
