@@ -16,8 +16,8 @@ mod Keeping
 mod FromOutside
 mod ScriptSteps
 mod Doing
+mod LayoutChecks
 mod RestoreNode
 mod RestoreSteps
 mod RegisterChecks
 mod BringUpSteps
-mod LayoutChecks

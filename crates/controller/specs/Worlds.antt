@@ -149,6 +149,6 @@ abbrev pub Formats : Scheme → ℕ → Meaning → Answer → Meaning → Type 
 Formats S h m x m′ = Formats-as S h (format-check eight-ary h (state-in m)) m x m′
 
 -- The register's words after format: untouched if refused.
-abbrev pub Register-made : ℕ → ℕ → List ℕ → Result (Unit {0}) Fault → List ℕ → Type 0
+abbrev pub Register-made : {E : Type 0} → ℕ → ℕ → List ℕ → Result (Unit {0}) E → List ℕ → Type 0
 Register-made h num ws (Ok _) ws′ = ws′ ≡ new-words h num
 Register-made h num ws (Err f) ws′ = ws′ ≡ ws

@@ -7,6 +7,7 @@ mod counters;
 pub mod event;
 mod evict;
 pub mod faults;
+mod format;
 mod latch;
 pub mod open;
 pub mod outside;
