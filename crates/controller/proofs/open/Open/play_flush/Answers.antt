@@ -9,4 +9,5 @@ pub returns : need.returns
 returns g c =
     record {
       plays = λ n. (_, refl, one-event (g .S·Suite .scheme (c .args .self .suite)) (world-in (g .B·Board .meaning (c .args .self .board)) (c .args .self .chip)) flush (report-in (c .flush-report .result)) (answer-in (c .reply .result)) (world-in (g .B·Board .meaning (c .flush-report .last .self .board)) (c .flush-report .last .self .chip)) (c .flush-report .ensures .law) (c .reply .ensures));
-      suite = c .flush-report .ensures .suite }
+      suite = c .flush-report .ensures .suite;
+    }

@@ -10,4 +10,5 @@ returns g c =
     let w = world-in (g .B·Board .meaning (c .args .self .board)) (c .args .self .chip) in
     record {
       plays = λ n. (_, refl, one-event (g .S·Suite .scheme (c .args .self .suite)) w (read (c .args .at)) (read-in (c .read-outcome .result) (c .read-outcome .last .body)) (answer-in (c .read-reply .result)) w (c .read-outcome .ensures .law) (c .read-reply .ensures));
-      suite = refl }
+      suite = refl;
+    }

@@ -6,4 +6,5 @@ pub returns : need.returns
 returns g c =
     record {
       plays = λ n. puts-one (g .S·Suite .scheme (c .args .self .suite)) n (world-in (g .B·Board .meaning (c .args .self .board)) (c .args .self .chip)) (world-in (g .B·Board .meaning (c .tamper-placed .last .self .board)) (c .tamper-placed .last .self .chip)) (c .args .at) (c .args .line) (c .tamper-placed .result) (c .tamper-placed .ensures .law);
-      suite = c .tamper-placed .ensures .suite }
+      suite = c .tamper-placed .ensures .suite;
+    }
