@@ -1,0 +1,6 @@
+use Rattle.controller.proofs.FromOutside.{cold-tampered}
+use Rattle.controller.proofs.cold.Cold.tamper.Needs as need
+
+pub returns : need.returns
+returns g c =
+    record { law = λ K. cold-tampered K (g .B·Board .meaning (c .args .self .now .board)) (g .B·Board .meaning (c .put .last .self)) (c .args .at) (c .args .line) (c .put .result) (c .put .ensures); put = c .put .ensures }

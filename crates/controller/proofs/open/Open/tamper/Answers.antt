@@ -1,0 +1,12 @@
+use mathlib.Core.Path.{refl}
+use Rattle.controller.proofs.FromOutside.{open-tampered}
+use Rattle.controller.proofs.open.Open.tamper.Needs as need
+
+pub returns : need.returns
+returns g c =
+    record {
+      law = open-tampered (g .S·Suite .scheme (c .args .self .now .suite)) (g .B·Board .meaning (c .args .self .now .board)) (g .B·Board .meaning (c .put .last .self)) (c .args .self .now .chip) (c .args .self .now .chip) (c .args .at) (c .args .line) (c .put .result) refl (c .put .ensures);
+      put = c .put .ensures;
+      chip = refl;
+      suite = refl;
+    }

@@ -1,0 +1,69 @@
+-- Scripts: many events in a row on one board, each finding what came before.
+use Prim.Native.Nat.{ℕ}
+use mathlib.Core.Path.{_≡_}
+use mathlib.Core.Bool.{Bool, true, false}
+use mathlib.Core.List.{List, [], _∷_, _++_}
+use Rattle.std.specs.declared.option.Option.{Option as Maybe}
+use Rattle.board.specs.Meaning.{Power, lesser}
+use Rattle.suite.specs.Scheme.{Scheme}
+use Rattle.machine.specs.Layout.{eight-ary}
+use Rattle.machine.specs.Store.{Log}
+use Rattle.machine.specs.Words.{row, line-in}
+use Rattle.machine.specs.History.{World, bring-up, read, write, flush, shut-down, tamper, recharge, Answer, nothing, body-is, done, refused, Fair, Reached}
+use Rattle.machine.specs.History.{Event as Happening}
+use Rattle.machine.specs.Laws.{No-reuse}
+use Rattle.controller.specs.declared.event.Event.{Event}
+use Rattle.controller.specs.declared.event.Event.the-variants.{Read, Write, Flush, Restart, Recharge, Tamper}
+use Rattle.controller.specs.declared.event.Reply.{Reply}
+use Rattle.controller.specs.declared.event.Reply.the-variants.{Body, Done, Refused, Put}
+use Rattle.controller.specs.Views.{fault-of}
+use Rattle.controller.specs.Worlds.{Goes-on}
+
+-- What happened and what it answered, in order.
+abbrev pub Trace : Type 0
+Trace = List (Happening × Answer)
+
+-- In a history that came to world w with log l, the trace goes on to w′: each event that the history's premise allows obeys its law, and so does all that follows it.
+abbrev pub Goes-through : Scheme → World → Log → Trace → World → Type 0
+Goes-through S w l [] w′ = (w′ ≡ w) × Reached eight-ary S w l × No-reuse l
+Goes-through S w l (p ∷ t) w′ =
+    (w₁ : World) × (Fair eight-ary S w l (p .0) → (l₁ : Log) × Goes-on S w l (p .0) (p .1) w₁ l₁ × Goes-through S w₁ l₁ t w′)
+
+-- In every history that came to world w, the trace goes on to w′.
+abbrev pub Keeps-through : Scheme → World → Trace → World → Type 0
+Keeps-through S w t w′ = (l : Log) → Reached eight-ary S w l → No-reuse l → Goes-through S w l t w′
+
+-- A reply as an answer.
+abbrev pub answer-in : Reply → Answer
+answer-in (Body ws) = body-is (row ws)
+answer-in (Done n) = done n
+answer-in (Refused f n) = refused (fault-of f) n
+answer-in (Put b) = nothing
+
+-- What an event of a script is in a history, with cap slots and the suite's number; a line that has no place is none.
+abbrev pub Traces : ℕ → ℕ → Event → Reply → Trace → Type 0
+Traces cap num (Read a) r t = t ≡ (read a, answer-in r) ∷ []
+Traces cap num (Write a b) r t = t ≡ (write a (row b), answer-in r) ∷ []
+Traces cap num Flush r t = t ≡ (flush, answer-in r) ∷ []
+Traces cap num Restart r t = t ≡ (shut-down, nothing) ∷ (bring-up cap num, answer-in r) ∷ []
+Traces cap num (Recharge left) r t = (supply : Power) × (t ≡ (shut-down, nothing) ∷ (recharge (lesser left supply), nothing) ∷ (bring-up cap num, answer-in r) ∷ [])
+Traces cap num (Tamper a l) (Put true) t = t ≡ (tamper a (line-in l), nothing) ∷ []
+Traces cap num (Tamper a l) (Put false) t = t ≡ []
+Traces cap num (Tamper a l) (Body ws) t = ⊥
+Traces cap num (Tamper a l) (Done n) t = ⊥
+Traces cap num (Tamper a l) (Refused f n) t = ⊥
+
+-- One event of a script, from world w to w′.
+abbrev pub Plays-one : Scheme → ℕ → World → Event → Reply → World → Type 0
+Plays-one S cap w e r w′ = (t : Trace) × Traces cap (S .number) e r t × Keeps-through S w t w′
+
+-- The events of a script in order, each with its reply.
+abbrev pub All-traces : ℕ → ℕ → List Event → List Reply → Trace → Type 0
+All-traces cap num [] [] t = t ≡ []
+All-traces cap num [] (r ∷ rs) t = ⊥
+All-traces cap num (e ∷ es) [] t = ⊥
+All-traces cap num (e ∷ es) (r ∷ rs) t = (t₁ t₂ : Trace) × (t ≡ t₁ ++ t₂) × Traces cap num e r t₁ × All-traces cap num es rs t₂
+
+-- A script, from world w to w′.
+abbrev pub Plays : Scheme → ℕ → World → List Event → List Reply → World → Type 0
+Plays S cap w es rs w′ = (t : Trace) × All-traces cap (S .number) es rs t × Keeps-through S w t w′

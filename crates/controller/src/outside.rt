@@ -1,0 +1,48 @@
+// What reaches a board between its calls: lines put in place past power, and power set anew.
+ghost use mathlib.Core.Path.{_≡_};
+ghost use Rattle.board.specs.Meaning.{lesser};
+ghost use Rattle.board.specs.Tampering.{LinePut, Recharged};
+ghost use Rattle.suite.specs.Scheme.{Scheme};
+ghost use Rattle.machine.specs.Words.{line-in};
+ghost use Rattle.machine.specs.History.{recharge as recharging, nothing};
+ghost use Rattle.controller.specs.Worlds.{world-in, cold-in, Keeps};
+ghost use Rattle.controller.specs.Outside.{Tampers};
+use crate::cold::Cold;
+use crate::open::Open;
+use board::tamper::Recharge;
+use board::tamper::Tamper;
+use board::types::Line;
+use suite::suite::Suite;
+
+impl<B: Tamper, S: Suite> Open<B, S> {
+    // Puts a line in place from outside; false where the board has no such line. The chip knows nothing of it.
+    pub fn tamper(&mut self, at: usize, line: Line) -> bool
+        ensures law { λ r. ⌜ Tampers (S·Suite .scheme (now (self .entry) .suite)) (world-in (B·Board .meaning (now (self .entry) .board)) (now (self .entry) .chip)) at (line-in line) r (world-in (B·Board .meaning (now (self .exit) .board)) (now (self .exit) .chip)) ⌝ }
+        ensures put { λ r. ⌜ LinePut (B·Board .meaning (now (self .entry) .board)) at line r (B·Board .meaning (now (self .exit) .board)) ⌝ }
+        ensures chip { λ _. ⌜ now (self .exit) .chip ≡ now (self .entry) .chip ⌝ }
+        ensures suite { λ _. ⌜ now (self .exit) .suite ≡ now (self .entry) .suite ⌝ }
+    {
+        self.board.put(at, line)
+    }
+}
+
+impl<B: Tamper> Cold<B> {
+    // Puts a line in place from outside; false where the board has no such line.
+    pub fn tamper(&mut self, at: usize, line: Line) -> bool
+        ensures law { λ r. ⌜ ((K : Scheme) → Tampers K (cold-in (B·Board .meaning (now (self .entry) .board))) at (line-in line) r (cold-in (B·Board .meaning (now (self .exit) .board)))) ⌝ }
+        ensures put { λ r. ⌜ LinePut (B·Board .meaning (now (self .entry) .board)) at line r (B·Board .meaning (now (self .exit) .board)) ⌝ }
+    {
+        self.board.put(at, line)
+    }
+}
+
+impl<B: Recharge> Cold<B> {
+    // Sets the power anew: to a number of writes, as far as the supply lasts, or to all of the supply.
+    pub fn recharge(&mut self, left: Option<u64>)
+        ensures law { λ _. ⌜ ((K : Scheme) → Keeps K (cold-in (B·Board .meaning (now (self .entry) .board))) (recharging (lesser left (B·Recharge .supply (now (self .entry) .board)))) nothing (cold-in (B·Board .meaning (now (self .exit) .board)))) ⌝ }
+        ensures power { λ _. ⌜ Recharged (B·Board .meaning (now (self .entry) .board)) (B·Recharge .supply (now (self .entry) .board)) left (B·Board .meaning (now (self .exit) .board)) ⌝ }
+        ensures supply { λ _. ⌜ B·Recharge .supply (now (self .exit) .board) ≡ B·Recharge .supply (now (self .entry) .board) ⌝ }
+    {
+        self.board.recharge(left)
+    }
+}
