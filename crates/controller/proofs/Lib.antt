@@ -14,6 +14,7 @@ mod WriteSteps
 mod FormatWrites
 mod Keeping
 mod Doing
+mod LayoutChecks
 mod RestoreNode
 mod RestoreSteps
 mod RegisterChecks

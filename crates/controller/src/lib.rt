@@ -2,8 +2,13 @@
 mod bring_up;
 pub mod chip;
 pub mod cold;
+mod commit;
 mod counters;
+mod evict;
 pub mod faults;
+mod format;
+mod latch;
 pub mod open;
 mod restore;
 pub mod types;
+mod write;
