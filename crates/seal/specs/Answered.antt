@@ -4,6 +4,7 @@ use mathlib.Core.List.{List, [], _∷_, _++_}
 use mathlib.Core.Option.{Option as Maybe, some, none}
 use Prim.Native.Nat.{ℕ, _+_}
 use lib.Chars.{codes}
+use lib.ListN.{length}
 use Rattle.std.specs.Options.{Cases}
 use Rattle.std.specs.Written.{decimal}
 use Rattle.std.specs.declared.option.Option.{Option}
@@ -36,13 +37,13 @@ abbrev pub body-of : Scheme → Kind → ℕ → ℕ → Line → Maybe Body
 body-of S Data = open-data S
 body-of S Node = open-node S
 
--- The right answer to an item.
+-- The right answer to an item. A body has eight words.
 abbrev pub Answered : Scheme → Item → Answer → Type 0
-Answered S (Seal k a c b) (Sealed l) = line-in l ≡ line-of S k a c (words-in b)
+Answered S (Seal k a c b) (Sealed l) = (length (l .body) ≡ 8) × (line-in l ≡ line-of S k a c (words-in b))
 Answered S (Seal k a c b) (Opened ws) = ⊥
 Answered S (Seal k a c b) Corrupt = ⊥
 Answered S (Open k a c l) (Sealed m) = ⊥
-Answered S (Open k a c l) (Opened ws) = body-of S k a c (line-in l) ≡ some (words-in ws)
+Answered S (Open k a c l) (Opened ws) = (length ws ≡ 8) × (body-of S k a c (line-in l) ≡ some (words-in ws))
 Answered S (Open k a c l) Corrupt = body-of S k a c (line-in l) ≡ none
 
 -- What is printed of an answer: the nine words of a line, the eight of a body, or a word for a corrupt line.

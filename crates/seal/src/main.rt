@@ -3,6 +3,8 @@ mod answering;
 mod printing;
 mod reading;
 mod running;
+#[cfg(test)]
+mod tests;
 mod types;
 
 use running::transcript;
