@@ -1,0 +1,8 @@
+use Rattle.script.proofs.Steps.{no-letter, step-read}
+use Rattle.script.proofs.step.read_step.Needs as need
+
+pub returns-in-Break-letter : need.returns-in-Break-letter
+returns-in-Break-letter c = rw (c .from-residual-in-Break-letter .ensures) (no-letter (c .args .line .now) _ (c .in-Continue-after .ensures tt) (c .in-Break-letter .ensures tt))
+
+pub returns : need.returns
+returns c = step-read (c .args .line .now) _ _ _ (c .in-Continue-after .ensures tt) (c .in-Continue-letter .ensures tt) (c .read-arguments .result) (c .read-arguments .ensures)

@@ -1,0 +1,5 @@
+// The text of a bench script: its header, its steps, and the rows that are printed of them.
+
+pub mod row;
+pub mod step;
+pub mod types;

@@ -1,0 +1,6 @@
+pub mod Decimals
+pub mod Cuts
+pub mod Pieces
+pub mod Hexes
+pub mod Rows
+pub mod Readers
