@@ -16,3 +16,7 @@ mod Keeping
 mod FromOutside
 mod ScriptSteps
 mod Doing
+mod RestoreNode
+mod RestoreSteps
+mod RegisterChecks
+mod BringUpSteps

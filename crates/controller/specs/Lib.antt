@@ -4,3 +4,5 @@ pub mod Registers
 pub mod Worlds
 pub mod Outside
 pub mod Scripts
+pub mod Restores
+pub mod BringUps

@@ -6,7 +6,7 @@ use mathlib.Core.Bool.{Bool, true, false, cond, _&&_, not, true≢false, false�
 use mathlib.Core.Option.{Option, some, none}
 use native.Mathlib.Omega.{arith}
 use lib.Dec.{ltb, leb, eqb}
-use Rattle.std.proofs.shelf.Tests.{eq-eqb, ne-eqb, cases-eq, and-parts, and-from, cases-bool, cases-lt}
+use Rattle.std.proofs.shelf.Tests.{eq-eqb, ne-eqb, cases-eq, and-parts, and-from, cases-bool, cases-lt, both-ways}
 use Rattle.machine.specs.Layout.{update, sum-to, every, first, or-last}
 use Rattle.machine.specs.Faults.{Outcome, ok, err, Fault, bind}
 
@@ -155,3 +155,16 @@ pub sum-zero : (n : ℕ) (f : ℕ → ℕ) → ((i : ℕ) → i < n → f i ≡ 
 unfolding sum-to
 sum-zero zero f h = refl
 sum-zero (suc n) f h = omega (arith, sum-zero n f (λ i k. h i (omega arith)), h n (omega arith))
+
+-- A test that fails at one place does not pass everywhere.
+pub every-fails : (n : ℕ) (f : ℕ → Bool) (i : ℕ) → i < n → f i ≡ false → every n f ≡ false
+every-fails n f i h e = go (every n f) refl
+  where
+    go : (b : Bool) → every n f ≡ b → b ≡ false
+    go true u = absurd (both-ways (f i) e (every-at n f u i h))
+    go false u = refl
+
+pub every-same : (n : ℕ) (f g : ℕ → Bool) → ((i : ℕ) → i < n → f i ≡ g i) → every n f ≡ every n g
+unfolding every
+every-same zero f g h = refl
+every-same (suc n) f g h = rw (every-same n f g (λ i k. h i (omega arith)), h n (omega arith))

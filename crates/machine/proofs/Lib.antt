@@ -31,6 +31,8 @@ pub mod WorkedCases
 pub mod CutsCompose
 pub mod SlotTable
 pub mod OneCommit
+pub mod Encodings
+pub mod ValidParts
 pub mod Steps
 pub mod ReachedFacts
 pub mod Example

@@ -7,4 +7,5 @@ pub mod Laws
 pub mod CommitLaws
 pub mod Promises
 pub mod Words
+pub mod Encoding
 pub mod Cases

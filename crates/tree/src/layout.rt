@@ -19,6 +19,13 @@ impl Layout {
         })
     }
 
+    // The layout of one level: eight data lines right under the root.
+    pub fn one_level() -> Layout
+        ensures { λ r. ⌜ r .levels ≡ 1 ⌝ }
+    {
+        Layout { levels: 1 }
+    }
+
     pub fn levels(self) -> usize
         ensures { λ r. ⌜ r ≡ self .levels ⌝ }
     {

@@ -3,4 +3,4 @@ use Rattle.machine.proofs.history_holds.Needs as need
 use Rattle.machine.proofs.EightAry.{history-holds}
 
 pub returns : need.returns
-returns c = history-holds
+returns c = record { promises = history-holds; limit = c .largest-counter .ensures }
