@@ -4,9 +4,7 @@ ghost use lib.ListN.{getD};
 ghost use Rattle.suite.specs.Words.{row};
 ghost use Rattle.machine.specs.Layout.{counter-limit, sum-to};
 ghost use Rattle.tree.specs.Tables.{all-within};
-
-// The largest counter, 2^48 - 1.
-pub const LIMIT: u64 = 281_474_976_710_655;
+pub use machine::counter::LIMIT;
 
 // Whether none of a node's counters is above the limit.
 pub fn within_limit(counters: &[u64; 8]) -> bool
