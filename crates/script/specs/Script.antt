@@ -3,6 +3,7 @@ use mathlib.Core.Path.{_≡_}
 use mathlib.Core.List.{List, [], _∷_, _++_}
 use Prim.Native.Nat.{ℕ, _<_}
 use lib.Chars.{codes}
+use denote.Ref.{RefT}
 use lib.ListN.{length, getD}
 use Rattle.std.specs.declared.option.Option.{Option}
 use Rattle.std.specs.declared.option.Option.the-variants.{Some, None}
@@ -60,28 +61,28 @@ SuiteLine suites t n = After (codes "suite=") Decimal t n × ((i : ℕ) × (i < 
 
 -- What is read of the first lines: their values and the text behind them, or the number of the first of them that is
 -- missing or unreadable.
-abbrev pub Outcome : Type 0
-Outcome = Result (Header × List ℕ) ℕ
+abbrev pub Outcome : Type 0 → Type 0
+Outcome A = Result (A × RefT (List ℕ)) ℕ
 
--- The first of some lines, which has number n, is to spell a value, and so on with that and the lines behind it.
-abbrev pub Field : {A : Type 0} → ℕ → (List ℕ → A → Type 0) → List (List ℕ) → Outcome → (A → List (List ℕ) → Type 0) → Type 0
+-- The first of some lines, which has number n, is to spell a value; so on with that and the lines behind it.
+abbrev pub Field : {A : Type 0} → ℕ → (List ℕ → A → Type 0) → List (List ℕ) → Outcome Header → (A → List (List ℕ) → Type 0) → Type 0
 Field n Spells [] r Next = r ≡ Err n
 Field {A} n Spells (l ∷ ls) r Next = (o : Option A) × Reads Spells l o × Cases o (r ≡ Err n) (λ a. Next a ls)
 
+-- All values are there, and these lines are left.
+abbrev pub Complete : Header → List (List ℕ) → Outcome Header → Type 0
+Complete h ls (Ok p) = (p .0 ≡ h) × (lines-of (p .1 .now) ≡ ls)
+Complete h ls (Err n) = ⊥
+
 -- The header: levels, slots, suite, key and fuse, in this order, a line each.
-abbrev pub HeaderRead : List ℕ → List (List ℕ) → Outcome → Type 0
+abbrev pub HeaderRead : List ℕ → List (List ℕ) → Outcome Header → Type 0
 HeaderRead suites ls r =
     Field 1 (After (codes "levels=") Decimal) ls r (λ levels ls₁.
     Field 2 (After (codes "slots=") Decimal) ls₁ r (λ slots ls₂.
     Field 3 (SuiteLine suites) ls₂ r (λ suite ls₃.
     Field 4 (After (codes "key=") Keys) ls₃ r (λ keys ls₄.
     Field 5 (After (codes "fuse=") Limit) ls₄ r (λ fuse ls₅.
-    (rest : List ℕ) × (ls₅ ≡ lines-of rest) × (r ≡ Ok (record { levels = levels; slots = slots; suite = suite; keys = keys; fuse = fuse }, rest)))))))
-
--- One field: the value of the first line and the text behind it, or its number.
-abbrev pub FieldRead : {A : Type 0} → ℕ → (List ℕ → A → Type 0) → List ℕ → Result (A × List ℕ) ℕ → Type 0
-FieldRead n Spells t (Ok p) = (l : List ℕ) × (lines-of t ≡ l ∷ lines-of (p .1)) × Spells l (p .0)
-FieldRead {A} n Spells t (Err m) = (m ≡ n) × ((l : List ℕ) (ls : List (List ℕ)) → lines-of t ≡ l ∷ ls → (a : A) → Spells l a → ⊥)
+    Complete (record { levels = levels; slots = slots; suite = suite; keys = keys; fuse = fuse }) ls₅ r)))))
 
 -- The words of a row, in the order of its columns.
 abbrev pub columns : Row → List ℕ

@@ -36,8 +36,16 @@ fn read_arguments(letter: char, text: &[u8]) -> Option<Step>
             let [at, value] = numbers::<2>(text)?;
             Some(Step::Write(at, value))
         }
-        's' => if text.is_empty() { Some(Step::Flush) } else { None },
-        'd' => if text.is_empty() { Some(Step::Restart) } else { None },
+        's' => if text.is_empty() {
+            Some(Step::Flush)
+        } else {
+            None
+        },
+        'd' => if text.is_empty() {
+            Some(Step::Restart)
+        } else {
+            None
+        },
         'p' => Some(Step::Recharge(read_limit(after(text, b" ")?)?)),
         'k' => Some(Step::Copy(read_one(text)?)),
         'm' => Some(Step::Put(read_one(text)?)),

@@ -11,7 +11,7 @@ pub struct Header {
 }
 
 // One step of a script.
-#[derive(Clone, Copy)]
+#[derive(Clone, Copy, PartialEq, Eq, Debug)]
 pub enum Step {
     // read the line at an address
     Read(u64),
