@@ -24,8 +24,8 @@ use Rattle.board.specs.declared.types.BoardFault.the-variants.{Absent, PowerLos
 use Rattle.controller.specs.declared.types.LineFault.{LineFault}
 use Rattle.controller.specs.declared.types.TreeFault.the-variants.{Board}
 
-pub all-valid≢err : {A B : Type 0} {x : A} {y : B} → _≡_ {A = Result A B} (Ok x) (Err y) → ⊥
-all-valid≢err {A} {B} e = subst code e tt
+pub Ok≢Err : {A B : Type 0} {x : A} {y : B} → _≡_ {A = Result A B} (Ok x) (Err y) → ⊥
+Ok≢Err {A} {B} e = subst code e tt
   where
     code : Result A B → Type 0
     code (Ok x) = Unit {0}
@@ -64,7 +64,7 @@ module _ (h : ℕ) (m : Meaning) (F : Fits h m) (S : Scheme) (t : Table) (a c : 
 
   -- The register was not written.
   pub commit-lost : (r : Result (Unit {0}) BoardFault) (f : LineFault) (m₁ : Meaning) (t′ : Table) → RegisterWritten m ws r m₁ → Err f ≡ with-line r a → (n : ℕ) → Went run m (some (tree-fault (Board f))) m₁ t′ n n × Fits h m₁
-  commit-lost (Ok u) f m₁ t′ w e n = absurd (all-valid≢err (sym e))
+  commit-lost (Ok u) f m₁ t′ w e n = absurd (Ok≢Err (sym e))
   commit-lost (Err Absent) f m₁ t′ w e n = absurd w
   commit-lost (Err PowerLost) f m₁ t′ w e n =
       (subst (λ (x : LineFault). Went run m (some (tree-fault (Board x))) m₁ t′ n n) (sym (Err-inj e)) (two-lost m a _ ws R l (line-at (eight-ary h) S a c b) grown p′ q m₁ t′ w n), subst (Fits h) (sym (w .1)) F)
@@ -72,16 +72,16 @@ module _ (h : ℕ) (m : Meaning) (F : Fits h m) (S : Scheme) (t : Table) (a c : 
   module _ (m₁ : Meaning) (w : RegisterWritten m ws (Ok tt) m₁) where
     -- The register was written, and the line was not.
     pub commit-half : (r : Result (Unit {0}) BoardFault) (f : LineFault) (m₂ : Meaning) (t′ : Table) → LineWritten m₁ a l r m₂ → Err f ≡ with-line r a → (n : ℕ) → Went run m (some (tree-fault (Board f))) m₂ t′ n (n + 1) × Fits h m₂
-    commit-half (Ok u) f m₂ t′ y e n = absurd (all-valid≢err (sym e))
+    commit-half (Ok u) f m₂ t′ y e n = absurd (Ok≢Err (sym e))
     commit-half (Err Absent) f m₂ t′ y e n = absurd (omega (arith, y .0, ap length (w .0), F .enough))
     commit-half (Err PowerLost) f m₂ t′ y e n =
         (subst (λ (x : LineFault). Went run m (some (tree-fault (Board x))) m₂ t′ n (n + 1)) (sym (Err-inj e)) (two-half m a _ ws R l (line-at (eight-ary h) S a c b) grown p′ q m₁ m₂ t′ w y n), subst (Fits h) (sym (y .2)) (fits-kept h m m₁ F (ap length (w .0)) (ap (λ x. row x 1) (w .1) ∙ word)))
 
     pub commit-done : (r : Result (Unit {0}) BoardFault) (m₂ : Meaning) (t′ : Table) → t′ ≡ grown → LineWritten m₁ a l r m₂ → Ok tt ≡ with-line r a → (n : ℕ) → Went run m none m₂ t′ n (n + 1) × Fits h m₂
-    commit-done (Err f) m₂ t′ g y e n = absurd (all-valid≢err e)
+    commit-done (Err f) m₂ t′ g y e n = absurd (Ok≢Err e)
     commit-done (Ok u) m₂ t′ g y e n =
         (subst (λ (x : Table). Went run m none m₂ x n (n + 1)) (sym g) (two-done m a _ ws R l (line-at (eight-ary h) S a c b) grown p′ q m₁ m₂ w y n), fits-kept h m m₂ F (ap length (y .1) ∙ length-set (m₁ .lines) a l ∙ ap length (w .0)) (ap (λ x. row x 1) (y .2 ∙ w .1) ∙ word))
 
   pub register-written : (m₁ : Meaning) (r : Result (Unit {0}) BoardFault) → Ok tt ≡ with-line r a → RegisterWritten m ws r m₁ → RegisterWritten m ws (Ok tt) m₁
   register-written m₁ (Ok u) e x = x
-  register-written m₁ (Err f) e x = absurd (all-valid≢err e)
+  register-written m₁ (Err f) e x = absurd (Ok≢Err e)

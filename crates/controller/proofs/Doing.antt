@@ -22,14 +22,14 @@ use Rattle.machine.specs.Layout.{eight-ary, lines-of}
 use Rattle.machine.specs.Store.{Log, log-after}
 use Rattle.machine.specs.Words.{row, state-in}
 use Rattle.machine.specs.Faults.{Fault as Why, fault, number, not-data, too-few-lines, corrupt, sum-mismatch, power-lost, at-limit}
-use Rattle.machine.specs.Plans.{Table, Run, stop, evict-until, write-call, flush-call}
-use Rattle.machine.specs.History.{World, Answer, refused, Ran}
+use Rattle.machine.specs.Plans.{Table, Run, stop, evict-until, read-call, write-call, flush-call}
+use Rattle.machine.specs.History.{World, Answer, refused, read-answer, Ran}
 use Rattle.machine.proofs.Cuts.{cut-le}
 use Rattle.machine.proofs.EightAry.{eight-trees}
 use Rattle.machine.proofs.Steps.{write-outside}
 use Rattle.controller.specs.Views.{fault-of, controller-says, view-in, Fits}
 use Rattle.controller.specs.Runs.{Went, ended}
-use Rattle.controller.specs.Worlds.{world-by, report-by, latch-of, call-check, Runs-as}
+use Rattle.controller.specs.Worlds.{world-by, report-by, latch-of, call-check, Runs-as, read-by}
 use Rattle.controller.proofs.Chains.{said-none, kept-whole}
 use Rattle.controller.proofs.RunEvents.{ran-whole, ran-lost}
 use Rattle.controller.proofs.EvictSteps.{went-none}
@@ -95,3 +95,16 @@ module _ (S : Scheme) (m : Meaning) (n : ℕ) (t : Table) (lv used : ℕ) (s : M
     pub does-flush : Went (evict-until (eight-ary h) S 0 (lines-of h) (view-in m t)) m (ended y) m′ t′ 0 k → Runs-as s (call-check m lv used) m n t (flush-call (eight-ary (row (m .register) 1)) S (view-in m t)) (report-by z k) m′ (world-by m′ s′ n t′)
     unfolding flush-call
     does-flush W = does-call S m n t lv used s _ p q m′ t′ k y z zi s′ si (subst (λ x. Went (evict-until (eight-ary x) S 0 (lines-of x) (view-in m t)) m (ended y) m′ t′ 0 k) (F .own) W)
+
+-- A read that passes the check answers as planned.
+pub answers-read : (S : Scheme) (m : Meaning) (t : Table) (lv used : ℕ) (s : Maybe Fault) → s ≡ None → (h : ℕ) → Fits h m → call-check m lv used ≡ none → (a : ℕ) (x : Answer) → x ≡ read-answer (read-call (eight-ary h) S (view-in m t) a) → x ≡ read-by s (call-check m lv used) (read-answer (read-call (eight-ary (row (m .register) 1)) S (view-in m t) a))
+answers-read S m t lv used s p h F q a x e =
+    e ∙ ap (λ k. read-answer (read-call (eight-ary k) S (view-in m t) a)) (F .own)
+    ∙ sym (ap (λ (y : Maybe Fault). read-by y (call-check m lv used) (read-answer (read-call (eight-ary (row (m .register) 1)) S (view-in m t) a))) p ∙ ap (λ (o : Option Why). read-by None o (read-answer (read-call (eight-ary (row (m .register) 1)) S (view-in m t) a))) q)
+
+-- The run of a write or a flush that was made on the slots as they were fitted to the layout.
+pub fitted-write : (S : Scheme) (cap : ℕ) (m : Meaning) (t t₁ : Table) (h h₁ : ℕ) → t₁ ≡ t → h₁ ≡ h → (a : ℕ) (b : Body) (o : Option Why) (m′ : Meaning) (t′ : Table) (n n′ : ℕ) → Went (write-call (eight-ary h₁) S cap (view-in m t₁) a b) m o m′ t′ n n′ → Went (write-call (eight-ary h) S cap (view-in m t) a b) m o m′ t′ n n′
+fitted-write S cap m t t₁ h h₁ e f a b o m′ t′ n n′ W = subst (λ (x : Table). Went (write-call (eight-ary h) S cap (view-in m x) a b) m o m′ t′ n n′) e (subst (λ x. Went (write-call (eight-ary x) S cap (view-in m t₁) a b) m o m′ t′ n n′) f W)
+
+pub fitted-flush : (S : Scheme) (m : Meaning) (t t₁ : Table) (h h₁ : ℕ) → t₁ ≡ t → h₁ ≡ h → (o : Option Why) (m′ : Meaning) (t′ : Table) (n n′ : ℕ) → Went (evict-until (eight-ary h₁) S 0 (lines-of h₁) (view-in m t₁)) m o m′ t′ n n′ → Went (evict-until (eight-ary h) S 0 (lines-of h) (view-in m t)) m o m′ t′ n n′
+fitted-flush S m t t₁ h h₁ e f o m′ t′ n n′ W = subst (λ (x : Table). Went (evict-until (eight-ary h) S 0 (lines-of h) (view-in m x)) m o m′ t′ n n′) e (subst (λ x. Went (evict-until (eight-ary x) S 0 (lines-of x) (view-in m t₁)) m o m′ t′ n n′) f W)

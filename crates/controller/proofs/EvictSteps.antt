@@ -84,10 +84,10 @@ module _ (h : ℕ) (S : Scheme) (m : Meaning) (t : Table) (a : ℕ) where
     pub parent-kept : (t′ : Table) → t′ ≡ update t a none → t′ (8 ^ h + a / 8) ≡ t (8 ^ h + a / 8)
     parent-kept t′ e = ap (λ (w : Table). w (8 ^ h + a / 8)) e ∙ update-other t a none (8 ^ h + a / 8) (λ x. omega (arith, restored))
 
-    pub room-after : (t′ : Table) (dirty-count : ℕ) → t′ ≡ update t a none → (8 ^ h + a / 8 < lines-of h → overdue (t (8 ^ h + a / 8)) ≡ false) → dirty-count < 64 → Room-at (eight-ary h) a dirty-count t′
-    room-after t′ dirty-count e f n x = subst (Room dirty-count) (sym (parent-kept t′ e)) (at (t (8 ^ h + a / 8)) (f x))
+    pub room-after : (t′ : Table) (used : ℕ) → t′ ≡ update t a none → (8 ^ h + a / 8 < lines-of h → overdue (t (8 ^ h + a / 8)) ≡ false) → used < 64 → Room-at (eight-ary h) a used t′
+    room-after t′ used e f n x = subst (Room used) (sym (parent-kept t′ e)) (at (t (8 ^ h + a / 8)) (f x))
       where
-        at : (o : Option Slot) → overdue o ≡ false → Room dirty-count o
+        at : (o : Option Slot) → overdue o ≡ false → Room used o
         at (some s) y = leb-false 1023 (s .pending) y
         at none y = n
 

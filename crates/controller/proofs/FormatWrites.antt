@@ -25,12 +25,12 @@ use Rattle.machine.specs.History.{cold, after, power-lost-at, ending, done, ref
 use Rattle.controller.specs.Views.{tree-fault, controller-says, with-line}
 use Rattle.controller.specs.Runs.{Wrote, ended}
 use Rattle.controller.specs.Registers.{new-words}
-use Rattle.controller.specs.Worlds.{report-by, Formats, Formats-as}
+use Rattle.controller.specs.Worlds.{report-by, Formats, Formats-as, Register-made}
 use Rattle.machine.proofs.Basics.{none≢some}
 use Rattle.machine.proofs.Cuts.{after-writes-front, after-writes-back, cut-le}
 use Rattle.controller.proofs.Chains.{place-front, place-back, after-writes-alike, cut-join, cut-stop}
 use Rattle.controller.proofs.TwoWrites.{mem-set}
-use Rattle.controller.proofs.CommitWrites.{Err-inj, all-valid≢err}
+use Rattle.controller.proofs.CommitWrites.{Err-inj, Ok≢Err}
 use Rattle.board.specs.declared.types.Line.{Line}
 use Rattle.board.specs.declared.types.BoardFault.{BoardFault}
 use Rattle.board.specs.declared.types.BoardFault.the-variants.{Absent, PowerLost}
@@ -113,7 +113,7 @@ cut-one (writes p) (writes q) s = (omega arith, omega arith, (λ x. absurd (omeg
 module _ (m : Meaning) (a : ℕ) (l : Line) (L : Same-commit) (q : line-in l ≡ L) (m′ : Meaning) where
   pub line-lost : a < length (m .lines) → (r : Result (Unit {0}) BoardFault) (f : LineFault) → LineWritten m a l r m′ → Err f ≡ with-line r a → Wrote (write-line a L ∷ []) m (some (tree-fault (OfBoard f))) m′
   unfolding after-writes place-of
-  line-lost k (Ok u) f y e = absurd (all-valid≢err (sym e))
+  line-lost k (Ok u) f y e = absurd (Ok≢Err (sym e))
   line-lost k (Err Absent) f y e = absurd (omega (arith, y .0))
   line-lost k (Err PowerLost) f y e =
       subst (λ (x : LineFault). Wrote (write-line a L ∷ []) m (some (tree-fault (OfBoard x))) m′) (sym (Err-inj e))
@@ -126,7 +126,7 @@ module _ (m : Meaning) (a : ℕ) (l : Line) (L : Same-commit) (q : line-in l ≡
 
   pub line-done : (r : Result (Unit {0}) BoardFault) → LineWritten m a l r m′ → Ok tt ≡ with-line r a → Wrote (write-line a L ∷ []) m none m′ × (length (m′ .lines) ≡ length (m .lines))
   unfolding after-writes
-  line-done (Err f) y e = absurd (all-valid≢err e)
+  line-done (Err f) y e = absurd (Ok≢Err e)
   line-done (Ok u) y e =
       let memory : memory-in (m′ .lines) ≡ update (memory-in (m .lines)) a L = ap memory-in (y .1) ∙ mem-set (m .lines) a l (y .0) ∙ ap (update (memory-in (m .lines)) a) q in
       let size : length (m′ .lines) ≡ length (m .lines) = ap length (y .1) ∙ length-set (m .lines) a l in (
@@ -142,7 +142,7 @@ module _ (m : Meaning) (a : ℕ) (l : Line) (L : Same-commit) (q : line-in l ≡
 module _ (m : Meaning) (es : Log) (ws : List ℕ) (R : Register) (q : register-in ws ≡ R) (m′ : Meaning) where
   pub register-lost : (r : Result (Unit {0}) BoardFault) (f : LineFault) → RegisterWritten m ws r m′ → Err f ≡ with-line r 0 → Wrote (write-register 0 es R ∷ []) m (some (tree-fault (OfBoard f))) m′
   unfolding after-writes place-of
-  register-lost (Ok u) f y e = absurd (all-valid≢err (sym e))
+  register-lost (Ok u) f y e = absurd (Ok≢Err (sym e))
   register-lost (Err Absent) f y e = absurd y
   register-lost (Err PowerLost) f y e =
       subst (λ (x : LineFault). Wrote (write-register 0 es R ∷ []) m (some (tree-fault (OfBoard x))) m′) (sym (Err-inj e))
@@ -155,7 +155,7 @@ module _ (m : Meaning) (es : Log) (ws : List ℕ) (R : Register) (q : register-i
 
   pub register-done : (r : Result (Unit {0}) BoardFault) → RegisterWritten m ws r m′ → Ok tt ≡ with-line r 0 → Wrote (write-register 0 es R ∷ []) m none m′
   unfolding after-writes
-  register-done (Err f) y e = absurd (all-valid≢err e)
+  register-done (Err f) y e = absurd (Ok≢Err e)
   register-done (Ok u) y e =
       record {
         done = 1;
@@ -232,14 +232,21 @@ module _ (S : Scheme) (m : Meaning) (h : ℕ) where
   pub format-refused : (x : Why) → format-check eight-ary h (state-in m) ≡ some x → Formats S h m (refused x 0) m
   format-refused x e = subst (λ (o : Option Why). Formats-as S h o m (refused x 0) m) (sym e) (refl, refl)
 
-  pub outside : (h < 1) ⊎ (4 < h) → format-check eight-ary h (state-in m) ≡ some (fault bad-size 0)
+  either : (h < 1) ⊎ (4 < h) → format-check eight-ary h (state-in m) ≡ some (fault bad-size 0)
   unfolding format-check
-  outside (inl k) = ap (λ b. cond (b && leb h 4) (cond (leb (lines-of h) (length (m .lines))) (cond (eqb (state-in m .register .formatted) 0) none (some (fault already-formatted 0))) (some (fault too-few-lines 0))) (some (fault bad-size 0))) (lt-leb 1 h k)
-  outside (inr k) = ap (λ b. cond (leb 1 h && b) (cond (leb (lines-of h) (length (m .lines))) (cond (eqb (state-in m .register .formatted) 0) none (some (fault already-formatted 0))) (some (fault too-few-lines 0))) (some (fault bad-size 0))) (lt-leb h 4 k) ∙ both (leb 1 h)
+  either (inl k) = ap (λ b. cond (b && leb h 4) (cond (leb (lines-of h) (length (m .lines))) (cond (eqb (state-in m .register .formatted) 0) none (some (fault already-formatted 0))) (some (fault too-few-lines 0))) (some (fault bad-size 0))) (lt-leb 1 h k)
+  either (inr k) = ap (λ b. cond (leb 1 h && b) (cond (leb (lines-of h) (length (m .lines))) (cond (eqb (state-in m .register .formatted) 0) none (some (fault already-formatted 0))) (some (fault too-few-lines 0))) (some (fault bad-size 0))) (lt-leb h 4 k) ∙ both (leb 1 h)
     where
       both : (b : Bool) → cond (b && false) (cond (leb (lines-of h) (length (m .lines))) (cond (eqb (state-in m .register .formatted) 0) none (some (fault already-formatted 0))) (some (fault too-few-lines 0))) (some (fault bad-size 0)) ≡ some (fault bad-size 0)
       both true = refl
       both false = refl
+
+  pub outside : (1 ≤ h → 4 < h) → format-check eight-ary h (state-in m) ≡ some (fault bad-size 0)
+  outside f = go (cases-lt 0 h)
+    where
+      go : (0 < h) ⊎ (h ≤ 0) → format-check eight-ary h (state-in m) ≡ some (fault bad-size 0)
+      go (inl k) = either (inr (f (omega arith)))
+      go (inr k) = either (inl (omega arith))
 
   module _ (low : 1 ≤ h) (high : h ≤ 4) where
     inside : format-check eight-ary h (state-in m) ≡ cond (leb (lines-of h) (length (m .lines))) (cond (eqb (state-in m .register .formatted) 0) none (some (fault already-formatted 0))) (some (fault too-few-lines 0))
@@ -271,3 +278,24 @@ module _ (S : Scheme) (m : Meaning) (h : ℕ) where
           says : (y : Result (Unit {0}) TreeFault) → ended y ≡ cond (ltb (P .done) (length (format-writes (eight-ary h) S h))) (some (power-lost-at (P .done) (format-writes (eight-ary h) S h))) none → report-by (controller-says y) 0 ≡ cond (ltb (P .done) (length (format-writes (eight-ary h) S h))) (refused (power-lost-at (P .done) (format-writes (eight-ary h) S h)) 0) (done 0)
           says (Ok u) e = ap (λ o. ending o 0) e ∙ go (ltb (P .done) (length (format-writes (eight-ary h) S h))) (power-lost-at (P .done) (format-writes (eight-ary h) S h))
           says (Err f) e = ap (λ o. ending o 0) e ∙ go (ltb (P .done) (length (format-writes (eight-ary h) S h))) (power-lost-at (P .done) (format-writes (eight-ary h) S h))
+
+-- The register after format, as the controller answers.
+pub register-says : (h num : ℕ) (ws : List ℕ) (y : Result (Unit {0}) TreeFault) (z : Result (Unit {0}) Fault) → z ≡ controller-says y → (ws′ : List ℕ) → Register-made h num ws y ws′ → Register-made h num ws z ws′
+register-says h num ws (Ok u) z e ws′ p = subst (λ (x : Result (Unit {0}) Fault). Register-made h num ws x ws′) (sym e) p
+register-says h num ws (Err f) z e ws′ p = subst (λ (x : Result (Unit {0}) Fault). Register-made h num ws x ws′) (sym e) p
+
+-- A line write leaves the register.
+pub line-kept : (m : Meaning) (a : ℕ) (l : Line) (m′ : Meaning) (r : Result (Unit {0}) BoardFault) → LineWritten m a l r m′ → m′ .register ≡ m .register
+line-kept m a l m′ (Ok u) y = y .2
+line-kept m a l m′ (Err Absent) y = ap (λ (x : Meaning). x .register) (y .1)
+line-kept m a l m′ (Err PowerLost) y = ap (λ (x : Meaning). x .register) (y .2)
+
+-- A refused register write leaves it, a done one replaces it.
+pub register-kept : (m : Meaning) (ws : List ℕ) (m′ : Meaning) (r : Result (Unit {0}) BoardFault) (f : LineFault) → RegisterWritten m ws r m′ → Err f ≡ with-line r 0 → m′ .register ≡ m .register
+register-kept m ws m′ (Ok u) f y e = absurd (Ok≢Err (sym e))
+register-kept m ws m′ (Err Absent) f y e = absurd y
+register-kept m ws m′ (Err PowerLost) f y e = ap (λ (x : Meaning). x .register) (y .1)
+
+pub register-put : (m : Meaning) (ws : List ℕ) (m′ : Meaning) (r : Result (Unit {0}) BoardFault) → RegisterWritten m ws r m′ → Ok tt ≡ with-line r 0 → m′ .register ≡ ws
+register-put m ws m′ (Ok u) y e = y .1
+register-put m ws m′ (Err f) y e = absurd (Ok≢Err e)

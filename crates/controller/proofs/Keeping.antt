@@ -7,7 +7,7 @@ use mathlib.Core.Option.{Option, some, none}
 use native.Mathlib.Omega.{arith}
 use lib.Dec.{leb, ltb, eqb}
 use lib.ListN.{length}
-use Rattle.std.proofs.shelf.Tests.{le-leb, lt-ltb, le-ltb, eq-eqb, cases-eq}
+use Rattle.std.proofs.shelf.Tests.{le-leb, lt-ltb, le-ltb, eq-eqb, ne-eqb, cases-eq}
 use Rattle.std.specs.declared.option.Option.{Option as Maybe}
 use Rattle.std.specs.declared.option.Option.the-variants.{Some, None}
 use Rattle.suite.specs.Scheme.{Body, Scheme}
@@ -15,9 +15,10 @@ use Rattle.board.specs.Meaning.{Meaning}
 use Rattle.machine.specs.Layout.{eight-ary, lines-of}
 use Rattle.machine.specs.Store.{Log}
 use Rattle.machine.specs.Words.{row, register-in, state-in}
-use Rattle.machine.specs.Faults.{Fault as Why, fault, too-few-lines, invalid-register}
+use Rattle.machine.specs.Faults.{Fault as Why, fault, bad-size, too-few-lines, invalid-register, already-formatted}
 use Rattle.machine.specs.Plans.{Table, Run, read-call}
 use Rattle.machine.specs.History.{World, Event, format, read, write, flush, shut-down, Answer, nothing, refused, read-answer, format-check, Formatted, Fair, Step, Reached}
+use Rattle.machine.proofs.Basics.{none≢some}
 use Rattle.machine.proofs.EightAry.{history-holds}
 use Rattle.machine.proofs.ReachedFacts.{open-facts, step-law}
 use Rattle.controller.specs.declared.types.Fault.{Fault}
@@ -136,3 +137,17 @@ format-kept S h m x m′ D = keeps S (cold-in m) (format h) x (cold-in m′) (λ
     kept : (o : Option Why) → Formats-as S h o m x m′ → (l : Log) → (l′ : Log) × Formatted eight-ary S h (state-in m) o l x (cold-in m′) l′
     kept (some y) (ex, em) l = (l, (ex, ap cold-in em, refl))
     kept none D l = D l
+
+-- A format of a board that is formatted is refused alike under every suite.
+pub format-others : (S : Scheme) (h : ℕ) (m : Meaning) (x : Answer) (m′ : Meaning) → Formats S h m x m′ → (K : Scheme) → (row (m .register) 0 ≡ 0 → ⊥) → Keeps K (cold-in m) (format h) x (cold-in m′)
+unfolding format-check register-in
+format-others S h m x m′ D K n = format-kept K h m x m′ (alike (format-check eight-ary h (state-in m)) (refuses (leb 1 h && leb h 4) (leb (lines-of h) (length (m .lines))) (eqb (row (m .register) 0) 0) (ne-eqb (row (m .register) 0) 0 n)) D)
+  where
+    refuses : (a b d : Bool) → d ≡ false → (y : Why) × (cond a (cond b (cond d none (some (fault already-formatted 0))) (some (fault too-few-lines 0))) (some (fault bad-size 0)) ≡ some y)
+    refuses false b d e = (fault bad-size 0, refl)
+    refuses true false d e = (fault too-few-lines 0, refl)
+    refuses true true d e = (fault already-formatted 0, ap (λ z. cond z none (some (fault already-formatted 0))) e)
+
+    alike : (o : Option Why) → (y : Why) × (o ≡ some y) → Formats-as S h o m x m′ → Formats-as K h o m x m′
+    alike (some y) e D = D
+    alike none (y, e) D = absurd (none≢some e)

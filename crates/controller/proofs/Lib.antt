@@ -16,6 +16,7 @@ mod Keeping
 mod FromOutside
 mod ScriptSteps
 mod Doing
+mod LayoutChecks
 mod RestoreNode
 mod RestoreSteps
 mod RegisterChecks

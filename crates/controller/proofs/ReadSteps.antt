@@ -1,15 +1,15 @@
 -- Reads, from what the code found.
 use Prim.Native.Nat.{ℕ, zero, suc, _+_, _-_, _*_, _/_, _%_, _^_, _≤_, _<_}
-use mathlib.Core.Path.{_≡_, refl, sym, ap, _∙_, subst, fun-ext}
-use mathlib.Core.Logic.{_⊎_, inl, inr}
+use mathlib.Core.Path.{_≡_, refl, sym, ap, _∙_}
 use mathlib.Core.Bool.{Bool, true, false, cond, _&&_}
 use mathlib.Core.List.{List, [], _∷_, _++_}
 use native.Mathlib.Omega.{arith}
 use lib.Dec.{eqb, leb, ltb}
-use lib.Bits.{bitXor}
-use lib.ListN.{length, getD, take, drop}
-use Rattle.std.proofs.shelf.Tests.{cases-lt, lt-ltb, le-ltb}
-use Rattle.std.proofs.shelf.Lists.{getD-past}
+use lib.ListN.{getD}
+use Rattle.std.proofs.shelf.Tests.{lt-ltb, le-ltb}
+use mathlib.Core.Option.{Option, some, none}
+use Rattle.machine.proofs.Basics.{none≢some, some-inj}
+use Rattle.suite.specs.Words.{open-data}
 use Rattle.suite.specs.Scheme.{Body, Scheme, right, mix}
 use Rattle.board.specs.Meaning.{Meaning}
 use Rattle.machine.specs.Layout.{eight-ary}
@@ -18,13 +18,6 @@ use Rattle.machine.specs.Faults.{fault, Outcome, ok, err, not-data, corrupt}
 use Rattle.machine.specs.Plans.{View, Table, counter-of, read-under, read-call}
 use Rattle.controller.specs.Views.{view-in}
 use Rattle.board.specs.declared.types.Line.{Line}
-
-pub row-mix : (ws ps out : List ℕ) → length ws ≡ 8 → length ps ≡ 8 → length out ≡ 8 → ((k : ℕ) → k < 8 → getD out k 0 ≡ bitXor (getD ws k 0) (getD ps k 0)) → row out ≡ mix (row ws) (row ps)
-row-mix ws ps out a b c h = fun-ext (λ i. at i (cases-lt i 8))
-  where
-    at : (i : ℕ) → (i < 8) ⊎ (8 ≤ i) → row out i ≡ mix (row ws) (row ps) i
-    at i (inl k) = h i k
-    at i (inr k) = getD-past out i 0 (omega arith) ∙ sym (rw (getD-past ws i 0 (omega arith), getD-past ps i 0 (omega arith)) refl)
 
 module _ (h : ℕ) (m : Meaning) (S : Scheme) (t : Table) (a : ℕ) where
   abbrev v : View
@@ -40,10 +33,22 @@ module _ (h : ℕ) (m : Meaning) (S : Scheme) (t : Table) (a : ℕ) where
     read-within = ap (read-under (eight-ary h) S v a) c ∙ sym (ap (λ b. cond b (read-under (eight-ary h) S v a (counter-of (eight-ary h) S v a)) (err (fault not-data a))) (lt-ltb a (8 ^ h) k))
 
   module _ (k : a < 8 ^ h) (c : ℕ) (e : ok c ≡ counter-of (eight-ary h) S v a) (l : Line) (g : l ≡ getD (m .lines) a no-line) where
-    pub read-corrupt : false ≡ right S a c (line-in l) → err (fault corrupt a) ≡ read-call (eight-ary h) S v a
+    found : (b : Bool) → right S a c (line-in l) ≡ b → cond b (ok (mix (row (l .body)) (S .pad a c))) (err (fault corrupt a)) ≡ read-call (eight-ary h) S v a
     unfolding memory-in
-    read-corrupt s = ap (λ b. cond b (ok (mix (memory-in (m .lines) a .words) (S .pad a c))) (err (fault corrupt a))) (s ∙ ap (λ x. right S a c (line-in x)) g) ∙ read-within k (ok c) e
+    found b s = ap (λ x. cond b (ok (mix (row (x .body)) (S .pad a c))) (err (fault corrupt a))) g ∙ ap (λ d. cond d (ok (mix (memory-in (m .lines) a .words) (S .pad a c))) (err (fault corrupt a))) (sym s ∙ ap (λ x. right S a c (line-in x)) g) ∙ read-within k (ok c) e
 
-    pub read-ok : true ≡ right S a c (line-in l) → (f : Body) → f ≡ mix (row (l .body)) (S .pad a c) → ok f ≡ read-call (eight-ary h) S v a
-    unfolding memory-in
-    read-ok s f p = ap ok (p ∙ ap (λ x. mix (row (x .body)) (S .pad a c)) g) ∙ ap (λ b. cond b (ok (mix (memory-in (m .lines) a .words) (S .pad a c))) (err (fault corrupt a))) (s ∙ ap (λ x. right S a c (line-in x)) g) ∙ read-within k (ok c) e
+    -- The line was opened.
+    pub read-opened : (f : Body) → open-data S a c (line-in l) ≡ some f → ok f ≡ read-call (eight-ary h) S v a
+    read-opened f p = go (right S a c (line-in l)) refl p
+      where
+        go : (b : Bool) → right S a c (line-in l) ≡ b → cond b (some (mix (row (l .body)) (S .pad a c))) none ≡ some f → ok f ≡ read-call (eight-ary h) S v a
+        go true q p = ap ok (sym (some-inj p)) ∙ found true q
+        go false q p = absurd (none≢some p)
+
+    -- It was not.
+    pub read-corrupt : open-data S a c (line-in l) ≡ none → err (fault corrupt a) ≡ read-call (eight-ary h) S v a
+    read-corrupt p = go (right S a c (line-in l)) refl p
+      where
+        go : (b : Bool) → right S a c (line-in l) ≡ b → cond b (some (mix (row (l .body)) (S .pad a c))) none ≡ none → err (fault corrupt a) ≡ read-call (eight-ary h) S v a
+        go true q p = absurd (none≢some (sym p))
+        go false q p = found false q

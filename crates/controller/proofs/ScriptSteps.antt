@@ -1,17 +1,25 @@
 -- Traces one after another.
-use Prim.Native.Nat.{ℕ}
+use Prim.Native.Nat.{ℕ, _+_, _-_, _≤_, _<_}
+use native.Mathlib.Omega.{arith}
+use lib.ListN.{length, getD, set, take, drop}
+use Rattle.std.proofs.shelf.Lists.{take-more, take-more-set, drop-set-lt, drop-drop}
+use mathlib.Core.Bool.{Bool, true, false}
 use mathlib.Core.Path.{_≡_, refl, sym, ap, _∙_, subst}
 use mathlib.Core.List.{List, [], _∷_, _++_, append-nil, append-assoc}
 use Rattle.suite.specs.Scheme.{Scheme}
 use Rattle.machine.specs.Layout.{eight-ary}
 use Rattle.machine.specs.Store.{Log}
-use Rattle.machine.specs.History.{World, Answer, Fair, Reached}
+use Rattle.board.specs.declared.types.Line.{Line as Stored}
+use Rattle.machine.specs.Words.{line-in}
+use Rattle.machine.specs.History.{World, tamper, Answer, nothing, Fair, Reached}
 use Rattle.machine.specs.History.{Event as Happening}
 use Rattle.machine.specs.Laws.{No-reuse}
 use Rattle.controller.specs.declared.event.Event.{Event}
+use Rattle.controller.specs.declared.event.Event.the-variants.{Tamper}
 use Rattle.controller.specs.declared.event.Reply.{Reply}
+use Rattle.controller.specs.declared.event.Reply.the-variants.{Put}
 use Rattle.controller.specs.Worlds.{Goes-on, Keeps}
-use Rattle.controller.specs.Outside.{Keeps-fair}
+use Rattle.controller.specs.Outside.{Keeps-fair, Tampers}
 use Rattle.controller.specs.Scripts.{Trace, Goes-through, Keeps-through, Traces, Plays-one, All-traces, Plays}
 
 module _ (S : Scheme) where
@@ -48,3 +56,43 @@ module _ (S : Scheme) where
   -- One event more.
   pub plays-more : (cap : ℕ) (w w₁ w₂ : World) (es : List Event) (rs : List Reply) (e : Event) (r : Reply) → Plays S cap w es rs w₁ → Plays-one S cap w₁ e r w₂ → Plays S cap w (es ++ e ∷ []) (rs ++ r ∷ []) w₂
   plays-more cap w w₁ w₂ es rs e r (t, a, k) (u, b, n) = (t ++ u, one-more cap (S .number) es rs t e r u a b, through-then w w₁ w₂ t u k n)
+
+  -- An event with its answer said in another way.
+  pub said-as : (w : World) (e : Happening) (x y : Answer) (w′ : World) → y ≡ x → Keeps S w e x w′ → Keeps S w e y w′
+  said-as w e x y w′ q = subst (λ (z : Answer). Keeps S w e z w′) (sym q)
+
+  -- Two events in a row.
+  pub two-events : (w w₁ w₂ : World) (e f : Happening) (x y z : Answer) → Keeps S w e x w₁ → Keeps S w₁ f y w₂ → z ≡ y → Keeps-through S w ((e, x) ∷ (f, z) ∷ []) w₂
+  two-events w w₁ w₂ e f x y z a b q =
+      through-then w w₁ w₂ ((e, x) ∷ []) ((f, z) ∷ []) (through-one w e x w₁ a) (through-one w₁ f z w₂ (said-as w₁ f y z w₂ q b))
+
+  -- Three.
+  pub three-events : (w w₁ w₂ w₃ : World) (d e f : Happening) (v x y z : Answer) → Keeps S w d v w₁ → Keeps S w₁ e x w₂ → Keeps S w₂ f y w₃ → z ≡ y → Keeps-through S w ((d, v) ∷ (e, x) ∷ (f, z) ∷ []) w₃
+  three-events w w₁ w₂ w₃ d e f v x y z a b c q =
+      through-then w w₁ w₃ ((d, v) ∷ []) ((e, x) ∷ (f, z) ∷ []) (through-one w d v w₁ a) (two-events w₁ w₂ w₃ e f x y z b c q)
+
+  -- A line put in place from outside, or one without a place.
+  pub puts-one : (cap : ℕ) (w w′ : World) (a : ℕ) (l : Stored) (b : Bool) → Tampers S w a (line-in l) b w′ → Plays-one S cap w (Tamper a l) (Put b) w′
+  puts-one cap w w′ a l true k = (_, refl, through-fair w (tamper a (line-in l)) nothing w′ k)
+  puts-one cap w w′ a l false k = ([], refl, λ m R o. (k, R, o))
+
+  -- One event as a trace, with its answer said in another way.
+  pub one-event : (w : World) (e : Happening) (x y : Answer) (w′ : World) → Keeps S w e x w′ → y ≡ x → Keeps-through S w ((e, y) ∷ []) w′
+  one-event w e x y w′ k q = through-one w e y w′ (said-as w e x y w′ q k)
+
+  -- Event i of a script, its reply put in place.
+  pub script-more : (cap : ℕ) (w w₁ w₂ : World) (es : List Event) (rs : List Reply) (i : ℕ) (e d : Event) (r : Reply) → i < length es → i < length rs → e ≡ getD es i d → Plays S cap w (take i es) (take i rs) w₁ → Plays-one S cap w₁ e r w₂ → Plays S cap w (take (i + 1) es) (take (i + 1) (set rs i r)) w₂
+  script-more cap w w₁ w₂ es rs i e d r h k q a b =
+      let s : take i es ++ e ∷ [] ≡ take (i + 1) es = ap (λ x. take i es ++ x ∷ []) q ∙ sym (take-more es i d h) in
+      let t : take i rs ++ r ∷ [] ≡ take (i + 1) (set rs i r) = sym (take-more-set rs i r k) in
+      subst (λ (x : List Reply). Plays S cap w (take (i + 1) es) x w₂) t (subst (λ (x : List Event). Plays S cap w x (take i rs ++ r ∷ []) w₂) s (plays-more cap w w₁ w₂ (take i es) (take i rs) e r a b))
+
+-- Lists that agree behind a place agree behind a later one.
+pub dropped-all : (rs ss : List Reply) (i n : ℕ) → i ≤ n → drop i rs ≡ drop i ss → drop n rs ≡ drop n ss
+dropped-all rs ss i n h e =
+    let k : i + (n - i) ≡ n = omega arith in
+    ap (λ m. drop m rs) (sym k) ∙ sym (drop-drop (n - i) i rs) ∙ ap (drop (n - i)) e ∙ drop-drop (n - i) i ss ∙ ap (λ m. drop m ss) k
+
+-- What lies behind place i is not touched.
+pub dropped-more : (rs ss : List Reply) (i : ℕ) (r : Reply) → drop i rs ≡ drop i ss → drop (i + 1) (set rs i r) ≡ drop (i + 1) ss
+dropped-more rs ss i r e = drop-set-lt (i + 1) rs i r (omega arith) ∙ dropped-all rs ss i (i + 1) (omega arith) e

@@ -10,6 +10,9 @@ use Rattle.tree.specs.Layouts.{shape-in}
 use Rattle.tree.specs.Tables.{slot-in, no-slot, rows-in}
 use Rattle.tree.specs.SlotTable.{table-in, no-slots}
 use Rattle.tree.specs.declared.types.Slots.{Slots}
+use Rattle.tree.specs.declared.types.Layout.{Layout}
+use mathlib.Core.Logic.{_⊎_, inl, inr}
+use Rattle.std.proofs.shelf.Tests.{cases-lt}
 use Rattle.tree.proofs.InOrder.{ordered-in, table-at}
 use Rattle.tree.proofs.Sums.{count-upto}
 
@@ -28,3 +31,11 @@ first-slot s k =
 pub unused-clean : (s : Slots) → s .used ≡ 0 → table-in s ≡ no-slots
 unfolding table-in rows-in
 unused-clean s e = ap (λ n. rows-in (s .table) n) e
+
+-- Slots of other levels than those in use would be are not in use.
+pub other-clean : (s : Slots) (l : Layout) → (0 < s .used → l .levels ≡ s .layout .levels) → (l .levels ≡ s .layout .levels → ⊥) → table-in s ≡ no-slots
+other-clean s l f n = go (cases-lt 0 (s .used))
+  where
+    go : (0 < s .used) ⊎ (s .used ≤ 0) → table-in s ≡ no-slots
+    go (inl k) = absurd (n (f k))
+    go (inr k) = unused-clean s (omega arith)

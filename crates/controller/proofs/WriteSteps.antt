@@ -100,15 +100,15 @@ module _ (h : ℕ) (S : Scheme) (cap : ℕ) (m : Meaning) (t : Table) (a p : ℕ
       go (some s) e = absurd (both-ways false refl (e))
       go none e = refl
 
-  pub roomy-dirty : (dirty-count : ℕ) → true ≡ is-dirty (t p) → overdue (t p) ≡ false → Room-at (eight-ary h) a dirty-count t
-  roomy-dirty dirty-count e f n = subst (λ x. Room dirty-count (t x)) q (go (t p) e f)
+  pub roomy-dirty : (used : ℕ) → true ≡ is-dirty (t p) → overdue (t p) ≡ false → Room-at (eight-ary h) a used t
+  roomy-dirty used e f n = subst (λ x. Room used (t x)) q (go (t p) e f)
     where
-      go : (o : Option Slot) → true ≡ is-dirty o → overdue o ≡ false → Room dirty-count o
+      go : (o : Option Slot) → true ≡ is-dirty o → overdue o ≡ false → Room used o
       go (some s) e f = leb-false 1023 (s .pending) f
       go none e f = absurd (both-ways true e refl)
 
-  pub roomy-clean : (dirty-count : ℕ) → t p ≡ none → dirty-count < 64 → Room-at (eight-ary h) a dirty-count t
-  roomy-clean dirty-count e f n = subst (λ x. Room dirty-count (t x)) q (subst (Room dirty-count) (sym e) f)
+  pub roomy-clean : (used : ℕ) → t p ≡ none → used < 64 → Room-at (eight-ary h) a used t
+  roomy-clean used e f n = subst (λ x. Room used (t x)) q (subst (Room used) (sym e) f)
 
   pub not-dirty : false ≡ is-dirty (t p) → t p ≡ none
   not-dirty e = go (t p) e

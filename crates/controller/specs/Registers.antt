@@ -5,17 +5,25 @@ use mathlib.Core.Bool.{Bool, cond}
 use mathlib.Core.List.{List}
 use mathlib.Core.Option.{Option, some, none}
 use lib.Dec.{ltb}
-use lib.ListN.{getD, set, take, drop, replicate}
+use lib.ListN.{length, getD, set, take, drop, replicate}
 use Rattle.board.specs.declared.types.Line.{Line as Stored}
+use Rattle.std.specs.declared.result.Result.{Result}
+use Rattle.std.specs.declared.result.Result.the-variants.{Ok, Err}
 use Rattle.suite.specs.Scheme.{Line}
 use Rattle.machine.specs.Layout.{Shape, update, counter-limit}
 use Rattle.machine.specs.Words.{no-address}
 use Rattle.machine.specs.Faults.{Fault}
 use Rattle.machine.specs.Plans.{Slot, Table, View, slot-for, raised}
+use Rattle.controller.specs.declared.types.LineFault.{LineFault}
 
 -- The register's words with the root's counter of line a, where the root is its parent.
 abbrev pub root-words : Shape → ℕ → ℕ → List ℕ → List ℕ
 root-words T a c ws = cond (ltb (T .parent a) (T .lines)) ws (set ws (3 + T .index a) c)
+
+-- The same words, 32 of them, as an answer that is never a fault.
+abbrev pub Register-raised : Shape → ℕ → ℕ → List ℕ → Result (List ℕ) LineFault → Type 0
+Register-raised T a c ws (Ok r) = (r ≡ root-words T a c ws) × (length ws ≡ 32)
+Register-raised T a c ws (Err f) = ⊥
 
 -- The slots with the counter of line a, where a node is its parent.
 abbrev pub raised-slots : Shape → (ℕ → Line) → Table → ℕ → ℕ → Table

@@ -4,7 +4,7 @@ use mathlib.Core.Path.{_≡_}
 use mathlib.Core.Bool.{Bool, _&&_}
 use mathlib.Core.List.{List}
 use mathlib.Core.Option.{Option, some, none}
-use lib.ListN.{length, getD, replicate}
+use lib.ListN.{length, getD}
 use Rattle.board.specs.Meaning.{Meaning}
 use Rattle.board.specs.declared.types.Line.{Line as Stored}
 use Rattle.board.specs.declared.types.BoardFault.{BoardFault}
@@ -68,6 +68,11 @@ abbrev pub outcome-in : Result ℕ TreeFault → Outcome ℕ
 outcome-in (Ok c) = ok c
 outcome-in (Err f) = err (tree-fault f)
 
+-- A body, or why there is none.
+abbrev pub body-in : Result (List ℕ) TreeFault → Outcome Body
+body-in (Ok ws) = ok (row ws)
+body-in (Err f) = err (tree-fault f)
+
 -- What a call on this board with these slots works on.
 abbrev pub view-in : Meaning → Table → View
 view-in m t = record { memory = memory-in (m .lines); register = register-in (m .register); table = t }
@@ -82,8 +87,3 @@ pub record Fits (h : ℕ) (m : Meaning) : Type 0 where
 -- Whether a node's line has the right tag under the counter, and counters within the limit.
 abbrev pub node-line-valid : Scheme → ℕ → ℕ → Line → Bool
 node-line-valid S p c L = right S p c L && all-within (L .words)
-
--- A read's answer and what it leaves in the caller's words: the body, or zeros.
-abbrev pub Reads : Outcome Body → Result (Unit {0}) Fault → List ℕ → Type 0
-Reads z (Ok _) ws = ok (row ws) ≡ z
-Reads z (Err f) ws = (err (fault-of f) ≡ z) × (ws ≡ replicate 8 0)

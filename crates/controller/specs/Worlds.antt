@@ -52,6 +52,11 @@ world-in m c = world-by m (c .latched) (c .capacity) (table-in (c .slots))
 abbrev pub cold-in : Meaning → World
 cold-in m = record { board = state-in m; chip = cold }
 
+-- A body as an answer.
+abbrev pub body-answer : Result (List ℕ) Fault → Answer
+body-answer (Ok ws) = body-is (row ws)
+body-answer (Err f) = refused (fault-of f) 0
+
 -- A read's answer, with what it left in the caller's words.
 abbrev pub read-in : Result (Unit {0}) Fault → List ℕ → Answer
 read-in (Ok _) ws = body-is (row ws)
@@ -144,6 +149,6 @@ abbrev pub Formats : Scheme → ℕ → Meaning → Answer → Meaning → Type 
 Formats S h m x m′ = Formats-as S h (format-check eight-ary h (state-in m)) m x m′
 
 -- The register's words after format: untouched if refused.
-abbrev pub Register-made : ℕ → ℕ → List ℕ → Result (Unit {0}) Fault → List ℕ → Type 0
+abbrev pub Register-made : {E : Type 0} → ℕ → ℕ → List ℕ → Result (Unit {0}) E → List ℕ → Type 0
 Register-made h num ws (Ok _) ws′ = ws′ ≡ new-words h num
 Register-made h num ws (Err f) ws′ = ws′ ≡ ws
