@@ -1,8 +1,10 @@
 -- The bits of a dirty map.
-use Prim.Native.Nat.{ℕ, _/_, _%_, _^_, _<_}
+use Prim.Native.Nat.{ℕ, _*_, _/_, _%_, _^_, _<_}
 use mathlib.Core.Path.{_≡_}
 use mathlib.Core.Bool.{true, false, cond}
 use mathlib.Core.List.{List}
+use lib.Bits.{bitOr}
+use lib.ListN.{getD, set}
 use Rattle.std.specs.declared.option.Option.{Option as Maybe}
 use Rattle.std.specs.declared.option.Option.the-variants.{Some, None}
 use Rattle.machine.specs.Layout.{sum-to}
@@ -25,3 +27,7 @@ word-bit w k = w / 2 ^ k % 2
 abbrev pub TopBit : ℕ → ℕ → Maybe ℕ → Type 0
 TopBit w r None = (k : ℕ) → k < r → word-bit w k ≡ 0
 TopBit w r (Some j) = (j < r) × (word-bit w j ≡ 1) × ((k : ℕ) → j < k → k < r → word-bit w k ≡ 0)
+
+-- A dirty map once one of its bits is set: a word with one bit more.
+abbrev pub with-bit : List ℕ → ℕ → List ℕ
+with-bit map j = set map (j / 64) (bitOr (getD map (j / 64) 0) ((1 * 2 ^ (j % 64)) % 2 ^ 64))

@@ -29,7 +29,7 @@ impl Slots {
     pub fn push(&mut self, slot: Slot) -> bool
         ensures { λ r. ⌜ Pushed (now (self .entry)) slot r (now (self .exit)) ⌝ }
     {
-        if self.used >= 64 {
+        if self.is_full() {
             return false;
         }
         if !self.layout.is_node(slot.address) {
@@ -63,7 +63,7 @@ impl Slots {
             raise_slot(&mut self.table[i], index, counter);
             return true;
         }
-        if self.used >= 64 {
+        if self.is_full() {
             return false;
         }
         if !self.layout.is_node(at) {

@@ -1,15 +1,24 @@
 ghost use mathlib.Core.Path.{_≡_};
 ghost use Prim.Native.Nat.{ℕ, _<_, _≤_};
-ghost use lib.ListN.{drop};
-ghost use Rattle.tree.specs.DirtyMap.{bits-set, TopBit, HighestBelow};
+ghost use lib.Count.{ones};
+ghost use lib.ListN.{take, drop};
+ghost use Rattle.tree.specs.DirtyMap.{bits-set, TopBit, HighestBelow, with-bit};
 
-// The dirty map in a register's words.
+// The dirty map in a register's words: words 22 to 31.
 pub fn map_of(words: &[u64; 32]) -> [u64; 10]
-    ensures { λ r. ⌜ r ≡ drop 22 (now (words .entry)) ⌝ }
+    ensures { λ r. ⌜ r ≡ take 10 (drop 22 (now (words .entry))) ⌝ }
 {
     let mut map = [0; 10];
     map.copy_from_slice(&words[22..32]);
     map
+}
+
+// How many bits of a word are set.
+fn set_bits(word: u64) -> u32
+    ensures value { λ r. ⌜ r ≡ ones word ⌝ }
+    ensures small { λ r. ⌜ r ≤ 64 ⌝ }
+{
+    word.count_ones()
 }
 
 // How many nodes a dirty map names.
@@ -18,7 +27,7 @@ pub fn dirty_nodes(map: &[u64; 10]) -> u32
 {
     let mut n = 0;
     for w in map {
-        n += w.count_ones();
+        n += set_bits(*w);
     }
     n
 }
@@ -57,4 +66,12 @@ pub fn highest_below(map: &[u64; 10], below: usize) -> Option<usize>
         }
     }
     None
+}
+
+// Sets one of the 640 bits of a dirty map.
+pub(crate) fn set_bit(map: &mut [u64; 10], place: usize)
+    requires { ⌜ place < 640 ⌝ }
+    ensures { λ _. ⌜ now (map .exit) ≡ with-bit (now (map .entry)) place ⌝ }
+{
+    map[place / 64] |= 1 << (place % 64);
 }

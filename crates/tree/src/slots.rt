@@ -1,16 +1,21 @@
 ghost use mathlib.Core.Path.{_≡_};
+ghost use Prim.Native.Nat.{ℕ, _*_, _<_, _≤_};
+ghost use lib.Dec.{leb};
+ghost use lib.ListN.{getD};
+ghost use Rattle.suite.specs.Words.{row};
+ghost use Rattle.machine.specs.Layout.{counter-limit, sum-to};
 ghost use Rattle.machine.specs.Plans.{is-dirty, overdue as overdue-in, dirty-count, sum-of};
 ghost use Rattle.tree.specs.Layouts.{shape-in};
 ghost use Rattle.tree.specs.SlotTable.{table-in, no-slots, map-in, Finds, Counter, LowestIs};
 use crate::counters::sum_of;
+use crate::dirty_map::set_bit;
 use crate::types::Layout;
 use crate::types::Slot;
 use crate::types::Slots;
 
 impl Slots {
-    // No dirty nodes.
-    pub fn new(layout: Layout) -> Slots
-        ensures table { λ r. ⌜ table-in r ≡ no-slots ⌝ }
+    // A table of which no slot is used.
+    fn unused(layout: Layout) -> Slots
         ensures empty { λ r. ⌜ r .used ≡ 0 ⌝ }
         ensures layout { λ r. ⌜ r .layout ≡ layout ⌝ }
     {
@@ -26,10 +31,33 @@ impl Slots {
         }
     }
 
+    // No dirty nodes.
+    pub fn new(layout: Layout) -> Slots
+        ensures table { λ r. ⌜ table-in r ≡ no-slots ⌝ }
+        ensures empty { λ r. ⌜ r .used ≡ 0 ⌝ }
+        ensures layout { λ r. ⌜ r .layout ≡ layout ⌝ }
+    {
+        Slots::unused(layout)
+    }
+
     pub fn layout(&self) -> Layout
         ensures { λ r. ⌜ r ≡ now (self .entry) .layout ⌝ }
     {
         self.layout
+    }
+
+    // How many slots are used.
+    fn len(&self) -> usize
+        ensures { λ r. ⌜ r ≡ now (self .entry) .used ⌝ }
+    {
+        self.used
+    }
+
+    // Whether every slot is used.
+    pub(crate) fn is_full(&self) -> bool
+        ensures { λ r. ⌜ r ≡ leb 64 (now (self .entry) .used) ⌝ }
+    {
+        64 <= self.used
     }
 
     // How many nodes are dirty.
@@ -37,7 +65,7 @@ impl Slots {
         ensures value { λ r. ⌜ r ≡ now (self .entry) .used ⌝ }
         ensures counted { λ r. ⌜ r ≡ dirty-count (shape-in (now (self .entry) .layout)) (table-in (now (self .entry))) ⌝ }
     {
-        self.used
+        self.len()
     }
 
     // Where the slot of a node stands.
@@ -109,7 +137,7 @@ impl Slots {
     {
         let mut sum = 0;
         for i in 0..self.used {
-            sum += sum_of(&self.table[i].counters);
+            sum += slot_sum(&self.table[i]);
         }
         sum
     }
@@ -122,8 +150,17 @@ impl Slots {
         let mut map = [0u64; 10];
         for i in 0..self.used {
             let j = self.table[i].address - base;
-            map[j / 64] |= 1 << (j % 64);
+            set_bit(&mut map, j);
         }
         map
     }
+}
+
+// The sum of a slot's counters.
+fn slot_sum(slot: &Slot) -> u64
+    requires { ⌜ ((k : ℕ) → k < 8 → getD (now slot .counters) k 0 ≤ counter-limit) ⌝ }
+    ensures value { λ r. ⌜ r ≡ sum-to 8 (row (now (slot .entry) .counters)) ⌝ }
+    ensures small { λ r. ⌜ r ≤ 8 * counter-limit ⌝ }
+{
+    sum_of(&slot.counters)
 }

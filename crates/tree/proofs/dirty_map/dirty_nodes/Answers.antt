@@ -4,7 +4,6 @@ use mathlib.Core.Bool.{cond}
 use native.Mathlib.Omega.{arith}
 use Prim.Native.Nat.{_+_, _*_, _<_, _^_}
 use lib.ListN.{getD}
-use lib.Count.{ones, ones-le}
 use Rattle.machine.specs.Layout.{sum-to}
 use Rattle.machine.specs.Words.{bit}
 use Rattle.tree.specs.DirtyMap.{bits-set}
@@ -19,12 +18,7 @@ loop-w-again c =
     let ws = c .args .map .now in
     let i = c .loop-w .w-index in
     let fit : getD ws i 0 < 2 ^ 64 = search needs in
-    (ap (λ x. x + ones (getD (c .args .map .now) (c .loop-w .w-index) 0)) (c .loop-w .inv .0) ∙ bits-more ws i fit, omega (arith, ones-le 64 (getD ws i 0) fit))
-
-pub add-n : need.add-n
-add-n c =
-    let fit : getD (c .args .map .now) (c .loop-w .w-index) 0 < 2 ^ 64 = search needs in
-    omega (arith, ones-le 64 (getD (c .args .map .now) (c .loop-w .w-index) 0) fit)
+    (ap (λ x. x + c .set-bits-n .result) (c .loop-w .inv .0) ∙ ap (λ x. sum-to (64 * c .loop-w .w-index) (λ j. cond (bit (c .args .map .now) j) 1 0) + x) (c .set-bits-n .ensures .value) ∙ bits-more ws i fit, omega (arith, c .set-bits-n .ensures .small))
 
 pub returns : need.returns
 unfolding bits-set

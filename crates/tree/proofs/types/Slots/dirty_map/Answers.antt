@@ -1,31 +1,19 @@
 use borrow.Author.Needs.{needs}
-use mathlib.Core.Path.{_≡_, refl, sym, ap, _∙_, fun-ext}
+use mathlib.Core.Path.{_≡_, refl, ap, _∙_, fun-ext}
 use native.Mathlib.Omega.{arith}
-use Prim.Native.Nat.{_/_, _-_, _<_}
-use lib.ListN.{getD}
+use mathlib.Core.List.{List}
+use Prim.Native.Nat.{ℕ, _-_}
+use lib.ListN.{length, getD}
 use Rattle.std.proofs.shelf.Lists.{length-set}
 use Rattle.machine.specs.Plans.{is-dirty}
-use Rattle.machine.specs.Layout.{lines-of}
 use Rattle.tree.specs.Tables.{no-slot, rows-in}
-use Rattle.tree.specs.SlotTable.{table-in}
+use Rattle.tree.specs.SlotTable.{table-in, map-in}
 use Rattle.tree.proofs.InOrder.{ordered-in}
 use Rattle.tree.proofs.MapBits.{lines-near, map-none, map-more}
 use Rattle.tree.proofs.types.Slots.dirty_map.Needs as need
 
-pub offset-map-j : need.offset-map-j
-offset-map-j c =
-    let s = c .args .self .now in
-    let r : getD (s .table) (c .loop-i .i) no-slot .address < lines-of (s .layout .levels) = s .range (c .loop-i .i) (c .loop-i-test .taken) in
-    let k : (getD (s .table) (c .loop-i .i) no-slot .address - c .data-lines-base .result) / 64 < 10 = omega (arith, r, lines-near (s .layout .levels) (s .layout .low) (s .layout .high), c .data-lines-base .ensures .value) in
-    search needs
-
-pub index-map-j : need.index-map-j
-index-map-j c =
-    let s = c .args .self .now in
-    omega (arith, s .range (c .loop-i .i) (c .loop-i-test .taken), c .data-lines-base .ensures .value, lines-near (s .layout .levels) (s .layout .low) (s .layout .high))
-
-pub index-map-j-in-loop-i : need.index-map-j-in-loop-i
-index-map-j-in-loop-i c =
+pub set-bit-requires : need.set-bit-requires
+set-bit-requires c κs =
     let s = c .args .self .now in
     omega (arith, s .range (c .loop-i .i) (c .loop-i-test .taken), c .data-lines-base .ensures .value, lines-near (s .layout .levels) (s .layout .low) (s .layout .high))
 
@@ -35,11 +23,12 @@ loop-i-holds c = (refl, map-none (c .args .self .now .layout .levels) (c .args .
 pub loop-i-again : need.loop-i-again
 loop-i-again c =
     let s = c .args .self .now in
-    let at = getD (s .table) (c .loop-i .i) no-slot .address in (
-      length-set (c .loop-i .map) _ _ ∙ c .loop-i .inv .0,
-      map-more (s .layout .levels) (s .table) (s .used) (c .loop-i .i) (c .loop-i .map) (at - c .data-lines-base .result) (ordered-in s) (c .loop-i-test .taken)
+    let e = c .set-bit .ensures in (
+      ap length e ∙ length-set (c .loop-i .map) _ _ ∙ c .loop-i .inv .0,
+      λ p. ap (λ (ms : List ℕ). map-in (c .args .self .now .layout .levels) ms p) e
+          ∙ map-more (s .layout .levels) (s .table) (s .used) (c .loop-i .i) (c .loop-i .map) (getD (s .table) (c .loop-i .i) no-slot .address - c .data-lines-base .result) (ordered-in s) (c .loop-i-test .taken)
           (omega (arith, s .range (c .loop-i .i) (c .loop-i-test .taken), c .data-lines-base .ensures .value, lines-near (s .layout .levels) (s .layout .low) (s .layout .high), c .loop-i .inv .0))
-          (ap (λ b. getD (c .args .self .now .table) (c .loop-i .i) no-slot .address - b) (c .data-lines-base .ensures .value)) (c .loop-i .inv .1),
+          (ap (λ b. getD (c .args .self .now .table) (c .loop-i .i) no-slot .address - b) (c .data-lines-base .ensures .value)) (c .loop-i .inv .1) p,
     )
 
 pub returns : need.returns

@@ -5,7 +5,7 @@ use mathlib.Core.Option.{some, none}
 use native.Mathlib.Omega.{arith}
 use Prim.Native.Nat.{ℕ, _^_, _≤_, _<_}
 use lib.ListN.{getD}
-use Rattle.std.proofs.shelf.Tests.{both-ways, le-leb, lt-leb}
+use Rattle.std.proofs.shelf.Tests.{leb-true, leb-false, both-ways, le-leb, lt-leb}
 use Rattle.suite.specs.Words.{row}
 use Rattle.machine.specs.Layout.{lines-of, counter-limit, update}
 use Rattle.machine.specs.Plans.{Slot as DirtyNode, overdue, raised}
@@ -48,8 +48,8 @@ returns-in-Some c =
       refl,
     )
 
-pub returns-then-self-ge64 : need.returns-then-self-ge64
-returns-then-self-ge64 c = ((λ f. let r : c .args .self .now .used < 64 = f .room (c .in-rest .ensures tt) in omega (arith, r, c .if-self-ge64 .taken)), refl)
+pub returns-then-is-full : need.returns-then-is-full
+returns-then-is-full c = ((λ f. let r : c .args .self .now .used < 64 = f .room (c .in-rest .ensures tt) in omega (arith, r, leb-true 64 (c .args .self .now .used) (sym (c .is-full .ensures) ∙ c .if-is-full .taken))), refl)
 
 pub returns-then-not-within-limit : need.returns-then-not-within-limit
 returns-then-not-within-limit c =
@@ -57,10 +57,11 @@ returns-then-not-within-limit c =
 
 pub append-requires : need.append-requires
 append-requires c κs =
+    let free : c .args .self .now .used < 64 = leb-false 64 (c .args .self .now .used) (sym (c .is-full .ensures) ∙ c .if-is-full .left) in
     let s = c .args .self .now in
     let n = node-parts (shape-in (s .layout)) (c .args .at) (sym (c .if-not-is-node .ensures tt)) in
     let e = sym (c .raise-slot-2 .ensures .place) in (
-      (c .if-self-ge64 .left, ap (table-in (c .args .self .now)) (sym e) ∙ c .in-rest .ensures tt),
+      (free, ap (table-in (c .args .self .now)) (sym e) ∙ c .in-rest .ensures tt),
       (
         subst (λ x. 8 ^ c .args .self .now .layout .levels ≤ x) e (n .0),
         (
@@ -72,6 +73,7 @@ append-requires c κs =
 
 pub returns : need.returns
 returns c =
+    let free : c .args .self .now .used < 64 = leb-false 64 (c .args .self .now .used) (sym (c .is-full .ensures) ∙ c .if-is-full .left) in
     let s = c .args .self .now in
     let n = node-parts (shape-in (s .layout)) (c .args .at) (sym (c .if-not-is-node .ensures tt)) in
     let none-there = c .in-rest .ensures tt in (
@@ -81,7 +83,7 @@ returns c =
         range = n .1;
         within = c .if-counter-gt-LIMIT .left;
         in-time = ap overdue none-there;
-        room = λ e. c .if-self-ge64 .left;
+        room = λ e. free;
         fresh = λ e. within-at (row (c .args .fresh .now)) (sym (c .if-not-within-limit .ensures tt));
       },
       c .append .ensures .table

@@ -15,10 +15,10 @@ loop-i-holds c = (sum-start (c .args .self .now .layout .levels) (c .args .self 
 
 pub loop-i-again : need.loop-i-again
 loop-i-again c = (
-  ap (λ x. x + c .sum-of-sum .result) (c .loop-i .inv .0)
-      ∙ ap (λ x. sum-of (shape-in (c .args .self .now .layout)) (rows-in (c .args .self .now .table) (c .loop-i .i)) + x) (c .sum-of-sum .ensures .value)
+  ap (λ x. x + c .slot-sum-sum .result) (c .loop-i .inv .0)
+      ∙ ap (λ x. sum-of (shape-in (c .args .self .now .layout)) (rows-in (c .args .self .now .table) (c .loop-i .i)) + x) (c .slot-sum-sum .ensures .value)
       ∙ sum-next (c .args .self .now .layout .levels) (c .args .self .now .table) (c .args .self .now .used) (ordered-in (c .args .self .now)) (c .loop-i .i) (search needs),
-  omega (arith, c .sum-of-sum .ensures .small),
+  omega (arith, c .slot-sum-sum .ensures .small),
 )
 
 pub returns : need.returns

@@ -1,5 +1,5 @@
 use borrow.Author.Needs.{needs}
-use mathlib.Core.Path.{refl}
+use mathlib.Core.Path.{_∙_}
 use native.Mathlib.Omega.{arith}
 use Rattle.tree.specs.SlotTable.{table-in}
 use Rattle.tree.proofs.InOrder.{ordered-in}
@@ -8,4 +8,6 @@ use Rattle.tree.proofs.types.Slots.used.Needs as need
 
 pub returns : need.returns
 unfolding table-in
-returns c = record { value = refl; counted = count-upto (c .args .self .now .layout .levels) (c .args .self .now .table) (c .args .self .now .used) (ordered-in (c .args .self .now)) (c .args .self .now .used) (omega arith) }
+returns c =
+    let s = c .args .self .now in
+    record { value = c .len .ensures; counted = c .len .ensures ∙ count-upto (s .layout .levels) (s .table) (s .used) (ordered-in s) (s .used) (omega arith) }
