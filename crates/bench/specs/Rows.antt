@@ -4,7 +4,7 @@ use mathlib.Core.Bool.{cond, _&&_}
 use mathlib.Core.List.{List, [], _∷_, _++_}
 use lib.Chars.{codes}
 use lib.Dec.{leb}
-use lib.ListN.{getD, drop}
+use lib.ListN.{getD, take, drop}
 use Rattle.std.specs.Written.{decimal}
 use Rattle.std.specs.declared.result.Result.{Result}
 use Rattle.std.specs.declared.result.Result.the-variants.{Ok, Err}
@@ -17,10 +17,10 @@ use Rattle.controller.specs.declared.event.Reply.{Reply}
 use Rattle.controller.specs.declared.event.Reply.the-variants.{Body, Done, Refused, Put}
 use Rattle.script.specs.declared.types.Row.{Row}
 
--- A row of these columns, with the dirty nodes and the dirty sum of a register.
+-- A row of these columns, with the dirty nodes and the dirty sum of a register: the bits set in words 22 to 31, and word 11.
 abbrev pub row-with : ℕ → ℕ → ℕ → ℕ → ℕ → ℕ → List ℕ → Row
 row-with n r y a v c g =
-    record { step = n; result = r; layer = y; at = a; value = v; commits = c; ahead = bits-set (drop 22 g); total = getD g 11 0 }
+    record { step = n; result = r; layer = y; at = a; value = v; commits = c; ahead = bits-set (take 10 (drop 22 g)); total = getD g 11 0 }
 
 -- The row of step n by its reply: word 0 of a body, the commits made, and the number, layer and place of a fault. A line put in place from outside shows nothing.
 abbrev pub row-of : ℕ → Reply → List ℕ → Row

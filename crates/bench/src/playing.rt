@@ -19,7 +19,6 @@ use controller::cold::Cold;
 use controller::event::Event;
 use controller::event::Reply;
 use controller::open::Open;
-use controller::script::run_event;
 use controller::types::Fault;
 use script::row::RowDisplay;
 use script::step::read_step;
@@ -38,7 +37,7 @@ fn play<B: Tamper + Recharge, S: Suite + Copy>(
     ensures suite { λ r. ⌜ r .0 .suite ≡ opened .suite ⌝ }
 {
     match event {
-        Some(event) => run_event(opened, slots, &event),
+        Some(event) => opened.run(slots, &event),
         None => (opened, Reply::Put(false)),
     }
 }

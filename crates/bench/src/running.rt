@@ -50,7 +50,13 @@ fn play_header(header: &Header, text: &[u8], words: &mut [u64], out: &mut String
 {
     let keys = header.keys;
     match header.suite {
-        1 => play_on_memory(SipSuite::new(&keys.mac, &keys.pad), header, text, words, out),
+        1 => play_on_memory(
+            SipSuite::new(&keys.mac, &keys.pad),
+            header,
+            text,
+            words,
+            out,
+        ),
         _ => play_on_memory(CmacSuite::new(&keys.mac), header, text, words, out),
     }
 }

@@ -6,9 +6,6 @@ use Rattle.text.specs.Spelling.{lines-of}
 use Rattle.bench.specs.Printed.{Table}
 use Rattle.bench.proofs.playing.play_script.Needs as need
 
-pub format-outcome-requires : need.format-outcome-requires
-format-outcome-requires g c κs = ?
-
 pub returns : need.returns
 returns g c =
     let meaning = g .B·Board .meaning in

@@ -31,8 +31,8 @@ loop-line-again g c =
     let plays = subst (λ y. Played (scheme y) (c .args .slots) (world-in (meaning (c .loop-line .open .board)) (c .loop-line .open .chip)) (c .event-of .result) (c .play-next .result .1) (world-in (meaning (c .play-next .result .0 .board)) (c .play-next .result .0 .chip))) (c .loop-line .inv .0) (c .play-next .ensures .plays) in (
       c .play-next .ensures .suite ∙ c .loop-line .inv .0,
       rows-more (scheme (c .args .opened .suite)) (c .args .slots) (c .args .text .now) (meaning (c .args .opened .board)) (c .args .opened .chip) (c .loop-line .rest .now) (c .loop-line .number) (meaning (c .loop-line .open .board)) (c .loop-line .open .chip) (c .loop-line .copy) (string-bytes (c .args .out .now)) (string-bytes (c .loop-line .out)) (c .loop-line .inv .1) _ _ (c .in-Some .ensures tt) (c .in-Some-read-step .step) (c .event-of .result) (c .play-next .result .1) (meaning (c .play-next .result .0 .board)) (c .play-next .result .0 .chip) (c .copy-after-kept .result) (c .read-register .result) (c .row-of-row .result) _ (c .in-Some-read-step .ensures tt)
-      (c .copy-after-kept .ensures ∙ ap (λ y. copy-after (meaning y) (c .loop-line .copy) (c .in-Some-read-step .step)) (c .board .ensures)) (c .event-of .ensures) plays
-      (c .read-register .ensures ∙ ap (λ y. meaning y .register) (c .board-in-Some .ensures)) (c .row-of-row .ensures) (c .in-rest-writeln .ensures tt .bytes),
+          (c .copy-after-kept .ensures ∙ ap (λ y. copy-after (meaning y) (c .loop-line .copy) (c .in-Some-read-step .step)) (c .board .ensures)) (c .event-of .ensures) plays
+          (c .read-register .ensures ∙ ap (λ y. meaning y .register) (c .board-in-Some .ensures)) (c .row-of-row .ensures) (c .in-rest-writeln .ensures tt .bytes),
       omega (arith, c .loop-line .inv .2),
     )
 
