@@ -7,7 +7,7 @@ use mathlib.Core.List.{List}
 use mathlib.Core.Option.{some, none}
 use native.Mathlib.Omega.{arith}
 use lib.Dec.{eqb}
-use Rattle.std.proofs.shelf.Tests.{cases-lt, le-leb, lt-leb, eq-eqb, ne-eqb}
+use Rattle.std.proofs.shelf.Tests.{cases-lt, le-leb, lt-leb}
 use Rattle.std.specs.declared.option.Option.the-variants.{Some, None}
 use Rattle.board.specs.Meaning.{Meaning}
 use Rattle.suite.specs.Scheme.{Scheme}
@@ -133,16 +133,17 @@ module _ (h : ℕ) (m : Meaning) (S : Scheme) where
   unfolding bind
   recover-err x e = way ∙ ap (λ z. bind z (λ v. judge v (eqb (sum-of (eight-ary h) (v .table)) (register-in (m .register) .dirty-sum)))) e
 
-  module _ (t : Table) (e : found ≡ ok (view-in m t)) (n d : ℕ) (q : n ≡ sum-of (eight-ary h) t) (word : d ≡ register-in (m .register) .dirty-sum) where
-    came : recover (eight-ary h) S (memory-in (m .lines)) (register-in (m .register)) ≡ judge (view-in m t) (eqb n d)
+  -- The counters add up to the dirty sum d, or not.
+  module _ (t : Table) (e : found ≡ ok (view-in m t)) (d : ℕ) (word : d ≡ register-in (m .register) .dirty-sum) where
+    came : recover (eight-ary h) S (memory-in (m .lines)) (register-in (m .register)) ≡ judge (view-in m t) (eqb (sum-of (eight-ary h) t) d)
     unfolding bind
-    came = way ∙ ap (λ z. bind z (λ v. judge v (eqb (sum-of (eight-ary h) (v .table)) (register-in (m .register) .dirty-sum)))) e ∙ ap (λ x. judge (view-in m t) (eqb x (register-in (m .register) .dirty-sum))) (sym q) ∙ ap (λ x. judge (view-in m t) (eqb n x)) (sym word)
+    came = way ∙ ap (λ z. bind z (λ v. judge v (eqb (sum-of (eight-ary h) (v .table)) (register-in (m .register) .dirty-sum)))) e ∙ ap (λ x. judge (view-in m t) (eqb (sum-of (eight-ary h) t) x)) (sym word)
 
-    pub recover-missed : (n ≡ d → ⊥) → recover (eight-ary h) S (memory-in (m .lines)) (register-in (m .register)) ≡ err (fault sum-mismatch 0)
-    recover-missed x = came ∙ ap (judge (view-in m t)) (ne-eqb n d x)
+    pub recover-missed : eqb (sum-of (eight-ary h) t) d ≡ false → recover (eight-ary h) S (memory-in (m .lines)) (register-in (m .register)) ≡ err (fault sum-mismatch 0)
+    recover-missed x = came ∙ ap (judge (view-in m t)) x
 
-    pub recover-ok : n ≡ d → recover (eight-ary h) S (memory-in (m .lines)) (register-in (m .register)) ≡ ok t
-    recover-ok x = came ∙ ap (judge (view-in m t)) (eq-eqb n d x)
+    pub recover-ok : eqb (sum-of (eight-ary h) t) d ≡ true → recover (eight-ary h) S (memory-in (m .lines)) (register-in (m .register)) ≡ ok t
+    recover-ok x = came ∙ ap (judge (view-in m t)) x
 
 -- A slot that fits is added.
 pub pushed : (s : Slots) (x : Slot) (b : Bool) (s′ : Slots) → Fit-to-push s x → Pushed s x b s′ → (table-in s′ ≡ update (table-in s) (x .address) (some (slot-in x))) × (s′ .used ≡ s .used + 1) × (s′ .layout ≡ s .layout)

@@ -1,6 +1,7 @@
 ghost use mathlib.Core.Path.{_≡_};
 ghost use mathlib.Core.Bool.{true};
 ghost use Rattle.std.specs.declared.option.Option.the-variants.{Some as Just};
+ghost use lib.Dec.{eqb};
 ghost use Rattle.machine.specs.Words.{register-in, state-in};
 ghost use Rattle.machine.specs.Layout.{eight-ary};
 ghost use Rattle.machine.specs.Encoding.{journal-meant};
@@ -26,6 +27,13 @@ use tree::dirty_map::dirty_nodes;
 use tree::types::Layout;
 use tree::types::Slots;
 
+// Whether a register names the suite.
+fn names<S: Suite>(register: &Register, suite: &S) -> bool
+    ensures { λ r. ⌜ r ≡ eqb (S·Suite .scheme (now (suite .entry)) .number) (now (register .entry) .suite) ⌝ }
+{
+    S::number_of() == register.suite
+}
+
 // The checks of bring-up before any write, in order: the layout, or why it is refused.
 fn check<B: Board, S: Suite>(board: &B, suite: &S, slots: u64) -> Result<Layout, Fault>
     ensures { λ r. ⌜ Checked (bring-up-check eight-ary slots (S·Suite .scheme (now (suite .entry)) .number) (state-in (B·Board .meaning (now (board .entry))))) slots (B·Board .meaning (now (board .entry))) r ⌝ }
@@ -46,7 +54,7 @@ fn check<B: Board, S: Suite>(board: &B, suite: &S, slots: u64) -> Result<Layout,
     if layout.lines() > board.count() {
         return Err(Fault::TooFewLines);
     }
-    if S::number_of() != register.suite {
+    if !names(&register, suite) {
         return Err(Fault::OtherSuite);
     }
     if dirty_nodes(&register.dirty) as u64 > slots {

@@ -1,7 +1,8 @@
 ghost use mathlib.Core.Path.{_≡_};
-ghost use Prim.Native.Nat.{ℕ, _<_, _≤_};
+ghost use Prim.Native.Nat.{ℕ, _-_, _<_, _≤_};
+ghost use lib.Dec.{eqb};
 ghost use Rattle.machine.specs.Words.{row, line-in, memory-in, register-in};
-ghost use Rattle.machine.specs.Plans.{map-count, restore-node, restore as restore-plan, recover as recover-plan};
+ghost use Rattle.machine.specs.Plans.{map-count, sum-of, restore-node, restore as restore-plan, recover as recover-plan};
 ghost use Rattle.tree.specs.Layouts.{shape-in};
 ghost use Rattle.tree.specs.SlotTable.{table-in, no-slots, map-in};
 ghost use Rattle.controller.specs.Views.{view-in, Fits};
@@ -53,6 +54,14 @@ fn restore_child<B: Board, S: Suite>(
     Ok(counter)
 }
 
+// How far a counter moved from the stored one.
+fn moved(stored: u64, counter: u64) -> u64
+    requires { ⌜ stored ≤ counter ⌝ }
+    ensures { λ r. ⌜ r ≡ counter - stored ⌝ }
+{
+    counter - stored
+}
+
 // The slot of node `at` from its stored counters and its children, or the first child that is corrupt.
 fn slot_from<B: Board, S: Suite>(
     board: &B,
@@ -72,7 +81,7 @@ fn slot_from<B: Board, S: Suite>(
     for i in 0..8 {
         let counter = restore_child(board, suite, layout, first + i, stored[i])?;
         counters[i] = counter;
-        pending += counter - stored[i];
+        pending += moved(stored[i], counter);
     }
     Ok(Slot {
         address: at,
@@ -124,6 +133,13 @@ fn restore<B: Board, S: Suite>(
     Ok(())
 }
 
+// Whether the counters of the slots add up to a dirty sum.
+fn adds_up(slots: &Slots, sum: u64) -> bool
+    ensures { λ r. ⌜ r ≡ eqb (sum-of (shape-in (now (slots .entry) .layout)) (table-in (now (slots .entry)))) sum ⌝ }
+{
+    slots.sum() == sum
+}
+
 // The slots of the dirty nodes, whose counters must add up to the dirty sum.
 pub(crate) fn recover<B: Board, S: Suite>(
     board: &B,
@@ -136,7 +152,7 @@ pub(crate) fn recover<B: Board, S: Suite>(
     let register = Register::decode(&board.read_register());
     let mut slots = Slots::new(layout);
     restore(board, suite, &mut slots, layout, &register.dirty)?;
-    if slots.sum() != register.dirty_sum {
+    if !adds_up(&slots, register.dirty_sum) {
         return Err(TreeFault::SumMismatch);
     }
     Ok(slots)

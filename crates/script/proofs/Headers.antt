@@ -1,10 +1,13 @@
 -- Reading a header field by field.
-use mathlib.Core.Path.{_≡_, refl, sym, subst}
+use mathlib.Core.Path.{_≡_, refl, sym, _∙_, ap, subst}
 use mathlib.Core.List.{List, [], _∷_}
 use Prim.Native.Nat.{ℕ}
 use denote.Ref.{RefT}
 use lib.Chars.{codes}
-use Rattle.std.specs.Options.{mapped}
+use Rattle.std.proofs.shelf.Results.{err-from-errBy}
+use Rattle.std.specs.Options.{mapped, okOr}
+use Rattle.std.specs.Results.{ErrBy}
+use Rattle.std.specs.declared.result.Result.{Result}
 use Rattle.std.specs.declared.option.Option.{Option}
 use Rattle.std.specs.declared.option.Option.the-variants.{Some, None}
 use Rattle.std.specs.declared.result.Result.the-variants.{Ok, Err}
@@ -12,6 +15,14 @@ use Rattle.text.specs.Spelling.{Reads, After, Decimal, Keys, FirstLine, lines-o
 use Rattle.text.specs.declared.types.KeyPair.{KeyPair}
 use Rattle.script.specs.Script.{Limit, SuiteLine, Outcome, Field, Complete, HeaderRead}
 use Rattle.script.specs.declared.types.Header.{Header}
+
+-- where a `?` left the function
+pub broke : {A X : Type 0} (r : Result X ℕ) (y n : ℕ) (o : Option A) → ErrBy r (λ z. z ≡ y) → _≡_ {A = Result A ℕ} (Err y) (okOr o n) → o ≡ None → r ≡ Err n
+broke r y n o h v e =
+    let p = err-from-errBy r h in
+    let w : _≡_ {A = Result _ ℕ} (Err y) (Err n) = v ∙ ap (λ x. okOr x n) e in
+    let k : y ≡ n = cc in
+    p .1 ∙ ap Err (p .2 ∙ k)
 
 -- what `next_line` and a reader of its line answered
 abbrev Split : Type 0

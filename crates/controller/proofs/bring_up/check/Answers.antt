@@ -2,6 +2,7 @@ use borrow.Author.Needs.{needs}
 use native.Mathlib.Omega.{arith}
 use mathlib.Core.Path.{_≡_, sym, ap, _∙_}
 use mathlib.Core.Logic.{inl, inr}
+use Rattle.std.proofs.shelf.Tests.{both-ways, eq-eqb, eqb-true}
 use Rattle.machine.specs.Layout.{eight-ary}
 use Rattle.machine.specs.Words.{register-in}
 use Rattle.machine.specs.History.{register-valid}
@@ -34,20 +35,20 @@ returns-then-lines-count g c =
     let own = c .in-Some .ensures tt .0 ∙ fields-levels (c .decode-register .result) (g .B·Board .meaning (c .args .board .now) .register) q in
     refuse-short (g .S·Suite .scheme (c .args .suite .now) .number) (c .args .slots) (g .B·Board .meaning (c .args .board .now)) (c .if-slots-lt1 .left) (c .if-slots-gt64 .left) (sym (ap (register-valid eight-ary) q) ∙ sym (c .is-valid .ensures) ∙ c .if-not-is-valid .left) (c .in-Some .layout .levels) own (omega (arith, c .if-lines-count .taken, c .lines .ensures .value, c .count .ensures))
 
-pub returns-then-number-of-register : need.returns-then-number-of-register
-returns-then-number-of-register g c =
+pub returns-then-not-names : need.returns-then-not-names
+returns-then-not-names g c =
     let q = c .decode-register .ensures .meaning ∙ ap register-in (c .read-register .ensures) in
     let own = c .in-Some .ensures tt .0 ∙ fields-levels (c .decode-register .result) (g .B·Board .meaning (c .args .board .now) .register) q in
-    refuse-suite (g .S·Suite .scheme (c .args .suite .now) .number) (c .args .slots) (g .B·Board .meaning (c .args .board .now)) (c .if-slots-lt1 .left) (c .if-slots-gt64 .left) (sym (ap (register-valid eight-ary) q) ∙ sym (c .is-valid .ensures) ∙ c .if-not-is-valid .left) (c .in-Some .layout .levels) own (omega (arith, c .if-lines-count .left, c .lines .ensures .value, c .count .ensures)) (λ e. c .if-number-of-register .taken (c .number-of .ensures (c .args .suite .now) ∙ e ∙ sym (fields-suite (c .decode-register .result) (g .B·Board .meaning (c .args .board .now) .register) q)))
+    refuse-suite (g .S·Suite .scheme (c .args .suite .now) .number) (c .args .slots) (g .B·Board .meaning (c .args .board .now)) (c .if-slots-lt1 .left) (c .if-slots-gt64 .left) (sym (ap (register-valid eight-ary) q) ∙ sym (c .is-valid .ensures) ∙ c .if-not-is-valid .left) (c .in-Some .layout .levels) own (omega (arith, c .if-lines-count .left, c .lines .ensures .value, c .count .ensures)) (λ e. both-ways (c .names .result) (c .if-not-names .taken) (c .names .ensures ∙ eq-eqb _ _ (e ∙ sym (fields-suite (c .decode-register .result) (g .B·Board .meaning (c .args .board .now) .register) q))))
 
 pub returns-then-dirty-nodes-slots : need.returns-then-dirty-nodes-slots
 returns-then-dirty-nodes-slots g c =
     let q = c .decode-register .ensures .meaning ∙ ap register-in (c .read-register .ensures) in
     let own = c .in-Some .ensures tt .0 ∙ fields-levels (c .decode-register .result) (g .B·Board .meaning (c .args .board .now) .register) q in
-    refuse-many (g .S·Suite .scheme (c .args .suite .now) .number) (c .args .slots) (g .B·Board .meaning (c .args .board .now)) (c .if-slots-lt1 .left) (c .if-slots-gt64 .left) (sym (ap (register-valid eight-ary) q) ∙ sym (c .is-valid .ensures) ∙ c .if-not-is-valid .left) (c .in-Some .layout .levels) own (omega (arith, c .if-lines-count .left, c .lines .ensures .value, c .count .ensures)) (sym (c .number-of .ensures (c .args .suite .now)) ∙ c .if-number-of-register .left ∙ fields-suite (c .decode-register .result) (g .B·Board .meaning (c .args .board .now) .register) q) (c .decode-register .result .dirty) (fields-map (c .decode-register .result) (g .B·Board .meaning (c .args .board .now) .register) q (c .in-Some .layout .levels) (c .in-Some .ensures tt .0)) (omega (arith, c .if-dirty-nodes-slots .taken, c .dirty-nodes .ensures))
+    refuse-many (g .S·Suite .scheme (c .args .suite .now) .number) (c .args .slots) (g .B·Board .meaning (c .args .board .now)) (c .if-slots-lt1 .left) (c .if-slots-gt64 .left) (sym (ap (register-valid eight-ary) q) ∙ sym (c .is-valid .ensures) ∙ c .if-not-is-valid .left) (c .in-Some .layout .levels) own (omega (arith, c .if-lines-count .left, c .lines .ensures .value, c .count .ensures)) (eqb-true _ _ (sym (c .names .ensures) ∙ c .if-not-names .left) ∙ fields-suite (c .decode-register .result) (g .B·Board .meaning (c .args .board .now) .register) q) (c .decode-register .result .dirty) (fields-map (c .decode-register .result) (g .B·Board .meaning (c .args .board .now) .register) q (c .in-Some .layout .levels) (c .in-Some .ensures tt .0)) (omega (arith, c .if-dirty-nodes-slots .taken, c .dirty-nodes .ensures))
 
 pub returns : need.returns
 returns g c =
     let q = c .decode-register .ensures .meaning ∙ ap register-in (c .read-register .ensures) in
     let own = c .in-Some .ensures tt .0 ∙ fields-levels (c .decode-register .result) (g .B·Board .meaning (c .args .board .now) .register) q in
-    pass (g .S·Suite .scheme (c .args .suite .now) .number) (c .args .slots) (g .B·Board .meaning (c .args .board .now)) (c .if-slots-lt1 .left) (c .if-slots-gt64 .left) (sym (ap (register-valid eight-ary) q) ∙ sym (c .is-valid .ensures) ∙ c .if-not-is-valid .left) (c .in-Some .layout .levels) own (omega (arith, c .if-lines-count .left, c .lines .ensures .value, c .count .ensures)) (sym (c .number-of .ensures (c .args .suite .now)) ∙ c .if-number-of-register .left ∙ fields-suite (c .decode-register .result) (g .B·Board .meaning (c .args .board .now) .register) q) (c .decode-register .result .dirty) (fields-map (c .decode-register .result) (g .B·Board .meaning (c .args .board .now) .register) q (c .in-Some .layout .levels) (c .in-Some .ensures tt .0)) (omega (arith, c .if-dirty-nodes-slots .left, c .dirty-nodes .ensures))
+    pass (g .S·Suite .scheme (c .args .suite .now) .number) (c .args .slots) (g .B·Board .meaning (c .args .board .now)) (c .if-slots-lt1 .left) (c .if-slots-gt64 .left) (sym (ap (register-valid eight-ary) q) ∙ sym (c .is-valid .ensures) ∙ c .if-not-is-valid .left) (c .in-Some .layout .levels) own (omega (arith, c .if-lines-count .left, c .lines .ensures .value, c .count .ensures)) (eqb-true _ _ (sym (c .names .ensures) ∙ c .if-not-names .left) ∙ fields-suite (c .decode-register .result) (g .B·Board .meaning (c .args .board .now) .register) q) (c .decode-register .result .dirty) (fields-map (c .decode-register .result) (g .B·Board .meaning (c .args .board .now) .register) q (c .in-Some .layout .levels) (c .in-Some .ensures tt .0)) (omega (arith, c .if-dirty-nodes-slots .left, c .dirty-nodes .ensures))

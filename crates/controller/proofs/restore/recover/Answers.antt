@@ -1,5 +1,6 @@
 use borrow.Author.Needs.{needs}
 use mathlib.Core.Path.{_≡_, refl, sym, ap, _∙_}
+use lib.Dec.{eqb}
 use Rattle.std.proofs.shelf.Results.{err-from-errBy}
 use Rattle.machine.specs.Words.{register-in}
 use Rattle.machine.specs.Plans.{map-count, sum-of}
@@ -25,18 +26,20 @@ returns-in-Break-restore g c =
     let x = err-from-errBy (c .from-residual .result) (c .from-residual .ensures .1) in
     rw (x .1, x .2) (recover-err (c .args .layout .levels) (g .B·Board .meaning (c .args .board .now)) (g .S·Suite .scheme (c .args .suite .now)) (tree-fault (c .in-Break-restore .field-0 .0)) (c .in-Break-restore .ensures tt .value))
 
-pub returns-then-sum-register : need.returns-then-sum-register
-returns-then-sum-register g c =
+pub returns-then-not-adds-up : need.returns-then-not-adds-up
+returns-then-not-adds-up g c =
     let M = g .B·Board .meaning (c .args .board .now) in
     let r = c .in-Continue-restore .ensures tt in
-    recover-missed (c .args .layout .levels) M (g .S·Suite .scheme (c .args .suite .now)) (table-in (c .restore .last .slots)) (r .value) (c .sum .result) (c .decode-register .result .«dirty_sum»)
-    (c .sum .ensures ∙ ap (λ (l : Layout). sum-of (shape-in l) (table-in (c .restore .last .slots))) (r .layout)) (fields-sum (c .decode-register .result) (M .register) (c .decode-register .ensures .meaning ∙ ap register-in (c .read-register .ensures))) (c .if-sum-register .taken)
+    recover-missed (c .args .layout .levels) M (g .S·Suite .scheme (c .args .suite .now)) (table-in (c .restore .last .slots)) (r .value) (c .decode-register .result .«dirty_sum»)
+    (fields-sum (c .decode-register .result) (M .register) (c .decode-register .ensures .meaning ∙ ap register-in (c .read-register .ensures)))
+    (ap (λ (l : Layout). eqb (sum-of (shape-in l) (table-in (c .restore .last .slots))) (c .decode-register .result .«dirty_sum»)) (sym (r .layout)) ∙ sym (c .adds-up .ensures) ∙ c .if-not-adds-up .taken)
 
 pub returns : need.returns
 returns g c =
     let M = g .B·Board .meaning (c .args .board .now) in
     let r = c .in-Continue-restore .ensures tt in (
-      recover-ok (c .args .layout .levels) M (g .S·Suite .scheme (c .args .suite .now)) (table-in (c .restore .last .slots)) (r .value) (c .sum .result) (c .decode-register .result .«dirty_sum»)
-          (c .sum .ensures ∙ ap (λ (l : Layout). sum-of (shape-in l) (table-in (c .restore .last .slots))) (r .layout)) (fields-sum (c .decode-register .result) (M .register) (c .decode-register .ensures .meaning ∙ ap register-in (c .read-register .ensures))) (c .if-sum-register .left),
+      recover-ok (c .args .layout .levels) M (g .S·Suite .scheme (c .args .suite .now)) (table-in (c .restore .last .slots)) (r .value) (c .decode-register .result .«dirty_sum»)
+          (fields-sum (c .decode-register .result) (M .register) (c .decode-register .ensures .meaning ∙ ap register-in (c .read-register .ensures)))
+          (ap (λ (l : Layout). eqb (sum-of (shape-in l) (table-in (c .restore .last .slots))) (c .decode-register .result .«dirty_sum»)) (sym (r .layout)) ∙ sym (c .adds-up .ensures) ∙ c .if-not-adds-up .left),
       r .layout,
     )

@@ -45,6 +45,9 @@ returns-in-Break-counter g c =
       slot = tt;
     })
 
+pub moved-pending-requires : need.moved-pending-requires
+moved-pending-requires g c κs = moved-up (getD (c .args .stored .now) (c .loop-i .i) 0) (c .in-Continue-counter .counter) _ (c .in-Continue-counter .ensures tt .0) .0
+
 pub loop-i-again : need.loop-i-again
 loop-i-again g c =
     let M = g .B·Board .meaning (c .args .board .now) in
@@ -59,7 +62,7 @@ loop-i-again g c =
       length-set (c .loop-i .counters) _ _ ∙ I .0,
       set-more (c .loop-i .counters) (child-counter (shape-in (c .args .layout)) (memory-in (M .lines)) (c .args .at)) (c .loop-i .i) (c .in-Continue-counter .counter) (omega (arith, I .0, c .loop-i-test .taken)) is (I .1),
       (λ k h. below-one (λ k. child-valid (shape-in (c .args .layout)) K (memory-in (M .lines)) (c .args .at) k ≡ true) (c .loop-i .i) k h (sym same ∙ v .1) (I .2 k)),
-      sum-step (λ k. child-counter (shape-in (c .args .layout)) (memory-in (M .lines)) (c .args .at) k - memory-in (M .lines) (c .args .at) .words k) (c .loop-i .i) (c .loop-i .pending) _ (I .3) (ap (λ x. x - getD (c .args .stored .now) (c .loop-i .i) 0) is ∙ ap (λ x. child-counter (shape-in (c .args .layout)) (memory-in (M .lines)) (c .args .at) (c .loop-i .i) - x) w),
+      sum-step (λ k. child-counter (shape-in (c .args .layout)) (memory-in (M .lines)) (c .args .at) k - memory-in (M .lines) (c .args .at) .words k) (c .loop-i .i) (c .loop-i .pending) _ (I .3) (c .moved-pending .ensures ∙ ap (λ x. x - getD (c .args .stored .now) (c .loop-i .i) 0) is ∙ ap (λ x. child-counter (shape-in (c .args .layout)) (memory-in (M .lines)) (c .args .at) (c .loop-i .i) - x) w),
       omega (arith, I .4, near),
     )
 
