@@ -5,7 +5,7 @@ ghost use Rattle.machine.specs.Plans.{read-call};
 ghost use Rattle.machine.specs.History.{read as reading, write as writing, flush as flushing, shut-down, nothing};
 ghost use Rattle.tree.specs.Layouts.{shape-in};
 ghost use Rattle.tree.specs.SlotTable.{table-in};
-ghost use Rattle.controller.specs.Views.{view-in, body-in, Fits};
+ghost use Rattle.controller.specs.Views.{view-in, body-in, Fits, Opened};
 ghost use Rattle.controller.specs.Worlds.{world-in, cold-in, body-answer, read-in, report-by, report-in, Keeps, Cleared, Layout-found, Does, write-plan, flush-plan, read-of};
 use crate::chip::Chip;
 use crate::cold::Cold;
@@ -34,6 +34,16 @@ pub struct Open<B: Board, S: Suite> {
     pub(crate) chip: Chip,
 }
 
+// The body that opening line `at` gave, or that the line is corrupt.
+fn opened(found: Option<[u64; 8]>, at: usize) -> Result<[u64; 8], TreeFault>
+    ensures { λ r. ⌜ Opened found at r ⌝ }
+{
+    match found {
+        Some(body) => Ok(body),
+        None => Err(TreeFault::Corrupt(at)),
+    }
+}
+
 // The body of data line `at`, its way down and its own line checked.
 fn data_body<B: Board, S: Suite>(
     board: &B,
@@ -47,10 +57,7 @@ fn data_body<B: Board, S: Suite>(
 {
     let counter = counter_of(board, suite, slots, layout, at)?;
     let line = line_of(board, at)?;
-    match open_data(suite, at as u64, counter, &line) {
-        Some(body) => Ok(body),
-        None => Err(TreeFault::Corrupt(at)),
-    }
+    opened(open_data(suite, at as u64, counter, &line), at)
 }
 
 impl<B: Board, S: Suite> Open<B, S> {
@@ -173,9 +180,12 @@ impl<B: Board, S: Suite> Open<B, S> {
         ensures does { λ r. ⌜ Does (flush-plan (S·Suite .scheme (now (self .entry) .suite)) (B·Board .meaning (now (self .entry) .board)) (now (self .entry) .chip)) (B·Board .meaning (now (self .entry) .board)) (now (self .entry) .chip) (report-in r) (B·Board .meaning (now (self .exit) .board)) (now (self .exit) .chip) ⌝ }
         ensures suite { λ _. ⌜ now (self .exit) .suite ≡ now (self .entry) .suite ⌝ }
     {
-        let mut commits = 0;
-        let outcome = self.flush_counted(&mut commits);
-        Report { commits, outcome }
+        let mut made = 0;
+        let outcome = self.flush_counted(&mut made);
+        Report {
+            commits: made,
+            outcome,
+        }
     }
 }
 
