@@ -19,7 +19,8 @@ use Rattle.machine.specs.Faults.{Fault as Why, fault, bad-size, too-few-lines, 
 use Rattle.machine.specs.Plans.{Table, Run, read-call}
 use Rattle.machine.specs.History.{World, Event, format, read, write, flush, shut-down, Answer, nothing, refused, read-answer, format-check, Formatted, Fair, Step, Reached}
 use Rattle.machine.proofs.Basics.{none≢some}
-use Rattle.machine.proofs.EightAry.{history-holds}
+use Rattle.machine.proofs.EightAry.{eight-trees}
+use Rattle.machine.proofs.HistoryHolds.{keeps-promises}
 use Rattle.machine.proofs.ReachedFacts.{open-facts, step-law}
 use Rattle.controller.specs.declared.types.Fault.{Fault}
 use Rattle.controller.specs.declared.chip.Chip.{Chip}
@@ -33,7 +34,7 @@ pub keeps : (S : Scheme) (w : World) (e : Event) (x : Answer) (w′ : World) →
 keeps S w e x w′ f l R =
     let (l′, q, s) = f l R in
     let (y, R′) = step-law S R e x w′ l′ q s in
-    (l′, record { step = s; law = y; reached = R′; once = history-holds S w′ l′ R′ .0 })
+    (l′, record { step = s; law = y; reached = R′; holds = keeps-promises eight-ary eight-trees S w′ l′ R′ })
 
 -- The check before the steps passes.
 pub check-ok : (m : Meaning) (lv n : ℕ) → 1 ≤ row (m .register) 1 → row (m .register) 1 ≤ 4 → lines-of (row (m .register) 1) ≤ length (m .lines) → (0 < n → row (m .register) 1 ≡ lv) → call-check m lv n ≡ none

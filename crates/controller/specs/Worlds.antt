@@ -22,8 +22,7 @@ use Rattle.machine.specs.Faults.{Fault as Why}
 use Rattle.machine.specs.Plans.{Table, Run, read-call, write-call, flush-call}
 use Rattle.machine.specs.History.{cold, opened, latched, World, Event, Answer, body-is, done, refused, read-answer, format-check, Ran, Formatted, Step, Reached}
 use Rattle.machine.specs.History.{Chip as ChipState}
-use Rattle.machine.specs.Laws.{No-reuse}
-use Rattle.machine.specs.Promises.{Law}
+use Rattle.machine.specs.Promises.{Law, Promises}
 use Rattle.tree.specs.SlotTable.{table-in}
 use Rattle.tree.specs.declared.types.Layout.{Layout}
 use Rattle.controller.specs.declared.types.TreeFault.{TreeFault}
@@ -71,12 +70,12 @@ report-by (Err f) n = refused (fault-of f) n
 abbrev pub report-in : Report → Answer
 report-in r = report-by (r .outcome) (r .commits)
 
--- One event of a history: it happened as the definitions say, it obeys its law, and what it left is reached, with no counter used twice.
+-- One event of a history: it happened as the definitions say, it obeys its law, and what it left is reached and holds what is promised at every point: no counter used twice, the register and the slots as the log says.
 pub record Goes-on (S : Scheme) (w : World) (l : Log) (e : Event) (x : Answer) (w′ : World) (l′ : Log) : Type 0 where
   pub step : Step eight-ary S w l e x w′ l′
   pub law : Law eight-ary S w l (w .chip) e x w′ l′
   pub reached : Reached eight-ary S w′ l′
-  pub once : No-reuse l′
+  pub holds : Promises eight-ary S w′ l′
 
 -- In every history that came to world w, event e with answer x goes on to w′.
 abbrev pub Keeps : Scheme → World → Event → Answer → World → Type 0
