@@ -61,39 +61,6 @@ module _ (T : Shape) where
   written-one (leaf-overdue y z o f) (leaf-clean y′ z′ f′) = absurd (omega arith)
   written-one {cap} {a} {b} {l} {j} {k} (leaf-overdue y z o f) (leaf-overdue {j = j′} y′ z′ o′ f′) = ap (λ i. with-next i a b) (freed-one f (subst (λ i. Evicted-until T (cap - 1) i j′) (out-one o′ o) f′))
 
-opened≢latched : {cap : ℕ} {t : Table} {r : Fault} → opened cap t ≡ latched r → ⊥
-opened≢latched {cap} {t} {r} e = subst code e tt
-  where
-    code : Chip → Type 0
-    code cold = ⊥
-    code (opened c u) = Unit {0}
-    code (latched y) = ⊥
-
-module _ (S : Scheme) (T : Shape) (cap : ℕ) (Full : Log → Log → Type 0) (w : World) (l : Log) where
-  -- A call that was done leaves the chip open.
-  pub no-latch : {n : ℕ} {w′ : World} {l′ : Log} {r : Fault} → Commit-law S T cap Full w l (done n) w′ l′ → w′ .chip ≡ latched r → ⊥
-  no-latch {n} c e = let (full, over, new, f, g, h, d, u) = c .begins in opened≢latched (sym (d n refl .2 .1) ∙ e)
-
-  -- And where the order leaves no choice, the law leaves none: one log, one memory.
-  module _ (one : (j k : Log) → Full l j → Full l k → j ≡ k) {n₁ n₂ : ℕ} {u v : World} {j k : Log} (C : Commit-law S T cap Full w l (done n₁) u j) (D : Commit-law S T cap Full w l (done n₂) v k) where
-    ends : {n : ℕ} {u : World} {j : Log} → Commit-law S T cap Full w l (done n) u j → Full l j
-    ends {n} {u} {j} c = let (full, over, new, f, g, h, d, x) = c .begins in subst (Full l) (g ∙ ap (λ z. z ++ j) (d n refl .1)) f
-
-    pub same-log : j ≡ k
-    same-log = one j k (ends C) (ends D)
-
-    pub same-memory : (q : ℕ) → u .board .memory q ≡ v .board .memory q
-    same-memory q = go (cases-eq (counter-in j q) (counter-in l q))
-      where
-        at : Stands T S j (u .board .memory) q ⊎ ((n : ℕ) × (done n₁ ≡ refused (fault power-lost q) n) × (newest j ≡ some q)) → Stands T S k (v .board .memory) q ⊎ ((n : ℕ) × (done n₂ ≡ refused (fault power-lost q) n) × (newest k ≡ some q)) → u .board .memory q ≡ v .board .memory q
-        at (inl x) (inl y) = x ∙ ap (λ z. line-at T S q (counter-in z q) (body-in z q)) same-log ∙ sym y
-        at (inl x) (inr y) = absurd (done≢refused (y .1))
-        at (inr x) y = absurd (done≢refused (x .1))
-
-        go : (counter-in j q ≡ counter-in l q) ⊎ (counter-in j q ≡ counter-in l q → ⊥) → u .board .memory q ≡ v .board .memory q
-        go (inl e) = C .untouched q e ∙ sym (D .untouched q (ap (λ z. counter-in z q) (sym same-log) ∙ e))
-        go (inr e) = at (C .stored q e) (D .stored q (λ f. e (ap (λ z. counter-in z q) same-log ∙ f)))
-
 -- A bring-up with slots enough is not refused for too many dirty nodes.
 pub not-too-many : (S : Scheme) (T : Shape) (cap num : ℕ) (w : World) (l : Log) (w′ : World) → Passes S T cap num l → Bring-up-law S T cap num w l (refused (fault too-many-dirty 0) 0) w′ → ⊥
 not-too-many S T cap num w l w′ u c = go (c .why u (fault too-many-dirty 0) refl)

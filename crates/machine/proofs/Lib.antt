@@ -21,6 +21,7 @@ pub mod BoardHolds
 pub mod Formatting
 pub mod FormatOrder
 pub mod Determined
+pub mod OneOutcome
 pub mod BringUp
 pub mod SumMismatch
 pub mod CorruptPlace
@@ -28,6 +29,7 @@ pub mod BringUpAnswers
 pub mod HistoryHolds
 pub mod EightAry
 pub mod Theorem
+pub mod Example
 pub mod WorkedCases
 pub mod CutsCompose
 pub mod SlotTable
@@ -35,5 +37,4 @@ pub mod Encodings
 pub mod ValidParts
 pub mod Steps
 pub mod ReachedFacts
-pub mod Example
 pub mod SixteenAry

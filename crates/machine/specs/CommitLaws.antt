@@ -124,5 +124,7 @@ module _ (S : Scheme) where
     pub dirty : (p : ℕ) → g .dirty p ≡ ltb p (T .lines) && ltb 0 (pending-in T l p)
     pub dirty-sum : g .dirty-sum ≡ sum-to (T .lines) (λ p. cond (g .dirty p) (sum-to (T .arity p) (counters-in T l p)) 0)
     pub journal : Journal-law T l (g .journal)
+    -- lines were committed, and the newest commit of each has its largest counter
     pub inside : (a c : ℕ) (b : Body) → In-log l a c b → (a < T .lines) × (c ≤ counter-in l a)
+    -- no counter is above the limit
     pub small : (a : ℕ) → a < T .lines → counter-in l a ≤ T .limit a

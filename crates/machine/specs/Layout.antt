@@ -20,15 +20,20 @@ pub record Shape : Type 0 where
 pub record TreeLaws (T : Shape) : Type 0 where
   pub some-lines : 1 ≤ T .lines
   pub data-in : T .data-lines ≤ T .lines
+  -- a parent is a node, at a higher address, or the root
   pub parent-above : (a : ℕ) → a < T .lines → a < T .parent a
   pub parent-node : (a : ℕ) → a < T .lines → T .data-lines ≤ T .parent a
   pub parent-in : (a : ℕ) → a < T .lines → T .parent a ≤ T .lines
+  -- a line is the child of its parent at its index
   pub index-in : (a : ℕ) → a < T .lines → T .index a < T .arity (T .parent a)
   pub child-index : (a : ℕ) → a < T .lines → T .child (T .parent a) (T .index a) ≡ a
+  -- a node's children are lines, and it is their parent
   pub child-in : (p i : ℕ) → T .data-lines ≤ p → p ≤ T .lines → i < T .arity p → T .child p i < T .lines
   pub parent-child : (p i : ℕ) → T .data-lines ≤ p → p ≤ T .lines → i < T .arity p → T .parent (T .child p i) ≡ p
   pub index-child : (p i : ℕ) → T .data-lines ≤ p → p ≤ T .lines → i < T .arity p → T .index (T .child p i) ≡ i
+  -- the children of one node are all data lines, or none is
   pub leaf-children : (a b : ℕ) → a < T .data-lines → b < T .lines → T .parent a ≡ T .parent b → b < T .data-lines
+  -- steps to the root
   pub depth-root : T .depth (T .lines) ≡ 0
   pub depth-parent : (a : ℕ) → a < T .lines → T .depth a ≡ suc (T .depth (T .parent a))
 

@@ -153,6 +153,23 @@ module _ (shapes : ℕ → Shape) (S : Scheme) where
     pub within : Within (shape-of shapes (w .board)) (w .chip)
     pub next : (e : Event) (x : Answer) (w′ : World) (l′ : Log) → Step shapes S w l e x w′ l′ → Law w l (w .chip) e x w′ l′
 
+-- A call did not lose power.
+abbrev pub Not-lost : Answer → Type 0
+Not-lost x = (r : Fault) (n : ℕ) → x ≡ refused r n → r .cause ≡ power-lost → ⊥
+
+-- Two outcomes are one: the answer, the commits, and every line.
+pub record Same-outcome (x : Answer) (u : World) (j : Log) (y : Answer) (v : World) (k : Log) : Type 0 where
+  pub answer : x ≡ y
+  pub log : j ≡ k
+  pub memory : (q : ℕ) → u .board .memory q ≡ v .board .memory q
+
+-- The law of commits leaves a write and a flush no choice but where power is lost. The register and the slots follow from the log.
+pub record Laws-decide : Type 0 where
+  pub writes : (S : Scheme) (T : Shape) (cap a : ℕ) (b : Body) (w : World) (l : Log) (x y : Answer) (u v : World) (j k : Log) → Not-lost x → Not-lost y → Register-law S T (u .board .register) j → Register-law S T (v .board .register) k →
+      Commit-law S T cap (Written T cap a b) w l x u j → Commit-law S T cap (Written T cap a b) w l y v k → Same-outcome x u j y v k
+  pub flushes : (S : Scheme) (T : Shape) (cap : ℕ) (w : World) (l : Log) (x y : Answer) (u v : World) (j k : Log) → Not-lost x → Not-lost y → Register-law S T (u .board .register) j → Register-law S T (v .board .register) k →
+      Commit-law S T cap (Evicted-until T 0) w l x u j → Commit-law S T cap (Evicted-until T 0) w l y v k → Same-outcome x u j y v k
+
 -- In every history of a board with these layouts, at every point, under every suite.
 abbrev pub Keeps-promises : (ℕ → Shape) → Type 0
 Keeps-promises shapes = (S : Scheme) (w : World) (l : Log) → Reached shapes S w l → Promises shapes S w l
