@@ -38,11 +38,11 @@ int main(void) {
         BEST(writes, 60, 20000, boardbench_writes(words, 9 * 584, slots, 8 * slots, 20000));
         BEST(reads, 60, 20000, boardbench_reads(words, 9 * 584, slots, 8 * slots, 20000));
         printf("%2lu slots: write %.0f ns, ratio %.2f\n", (unsigned long)slots, writes, seal / writes);
-        printf("          read %.0f ns (leaf and its parent checked too)\n", reads);
+        printf("          read %.0f ns, ratio %.2f\n", reads, seal / reads);
     }
     for (uint64_t levels = 2; levels <= 4; levels++)
         for (uint64_t dirty = 0; dirty <= 8; dirty = dirty ? 2 * dirty : 1) {
-            BEST(up, 30, 2000, boardbench_bring_ups(words, 9 * 4680, levels, dirty, 2000));
+            BEST(up, 5, 20000, boardbench_bring_ups(words, 9 * 4680, levels, dirty, 20000));
             printf("levels %lu, %lu dirty: bring-up %.0f ns\n", (unsigned long)levels, (unsigned long)dirty, up);
         }
     return 0;
