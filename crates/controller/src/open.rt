@@ -190,16 +190,23 @@ impl<B: Board, S: Suite> Open<B, S> {
 }
 
 impl<B: Board, S: Suite + Drop> Open<B, S> {
-    // Takes the board down: what the chip holds is lost, as at a loss of power.
-    pub fn shut_down(self) -> Cold<B>
-        ensures board { λ r. ⌜ r .board ≡ self .board ⌝ }
-        ensures law { λ r. ⌜ Keeps (S·Suite .scheme (self .suite)) (world-in (B·Board .meaning (self .board)) (self .chip)) shut-down nothing (cold-in (B·Board .meaning (r .board))) ⌝ }
+    // The board alone: what the chip holds is lost.
+    fn into_board(self) -> B
+        ensures { λ r. ⌜ r ≡ self .board ⌝ }
     {
         let Open {
             board,
             suite: _suite,
             chip: _chip,
         } = self;
-        Cold { board }
+        board
+    }
+
+    // Takes the board down, as a loss of power would.
+    pub fn shut_down(self) -> Cold<B>
+        ensures board { λ r. ⌜ r .board ≡ self .board ⌝ }
+        ensures law { λ r. ⌜ Keeps (S·Suite .scheme (self .suite)) (world-in (B·Board .meaning (self .board)) (self .chip)) shut-down nothing (cold-in (B·Board .meaning (r .board))) ⌝ }
+    {
+        Cold::new(self.into_board())
     }
 }
