@@ -16,16 +16,16 @@ use Rattle.machine.specs.Layout.{eight-ary, lines-of}
 use Rattle.machine.specs.Store.{Log}
 use Rattle.machine.specs.Words.{row, register-in, state-in}
 use Rattle.machine.specs.Faults.{Fault as Why, fault, bad-size, too-few-lines, invalid-register, already-formatted}
-use Rattle.machine.specs.Plans.{Table, Run, read-call}
-use Rattle.machine.specs.History.{World, Event, format, read, write, flush, shut-down, Answer, nothing, refused, read-answer, format-check, Formatted, Fair, Step, Reached}
+use Rattle.machine.specs.Plans.{Table, read-call}
+use Rattle.machine.specs.History.{World, Event, format, read, write, flush, shut-down, Answer, nothing, read-answer, format-check, Formatted, Fair, Step, Reached}
 use Rattle.machine.proofs.Basics.{none≢some}
 use Rattle.machine.proofs.EightAry.{history-holds}
 use Rattle.machine.proofs.ReachedFacts.{open-facts, step-law}
 use Rattle.controller.specs.declared.types.Fault.{Fault}
 use Rattle.controller.specs.declared.chip.Chip.{Chip}
 use Rattle.tree.specs.SlotTable.{table-in}
-use Rattle.controller.specs.Views.{fault-of, view-in, Fits}
-use Rattle.controller.specs.Worlds.{chip-by, world-by, world-in, cold-in, Keeps, call-check, Runs-as, Does, write-plan, flush-plan, read-by, read-of, Formats-as, Formats}
+use Rattle.controller.specs.Views.{view-in}
+use Rattle.controller.specs.Worlds.{world-by, world-in, cold-in, Keeps, call-check, Runs-as, Does, write-plan, flush-plan, read-by, read-of, Formats-as, Formats}
 use Rattle.controller.proofs.SlotFacts.{first-slot}
 
 -- An event that happened, in every history that came here, goes on.

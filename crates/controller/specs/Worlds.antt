@@ -1,13 +1,12 @@
 -- Boards and chips as points of a history, and what the calls keep and do.
-use Prim.Native.Nat.{ℕ, _≤_, _<_}
+use Prim.Native.Nat.{ℕ, _<_}
 use mathlib.Core.Path.{_≡_}
-use mathlib.Core.Bool.{Bool, cond, _&&_, _||_}
+use mathlib.Core.Bool.{cond, _&&_, _||_}
 use mathlib.Core.List.{List}
 use mathlib.Core.Option.{Option, some, none}
 use lib.Dec.{leb, eqb}
 use lib.ListN.{length, replicate}
 use Rattle.board.specs.Meaning.{Meaning}
-use Rattle.board.specs.declared.types.BoardFault.{BoardFault}
 use Rattle.board.specs.declared.types.BoardFault.the-variants.{Absent, PowerLost}
 use Rattle.std.specs.declared.result.Result.{Result}
 use Rattle.std.specs.declared.result.Result.the-variants.{Ok, Err}
@@ -29,7 +28,7 @@ use Rattle.tree.specs.declared.types.Layout.{Layout}
 use Rattle.controller.specs.declared.types.TreeFault.{TreeFault}
 use Rattle.controller.specs.declared.types.TreeFault.the-variants.{Board, Corrupt, AtLimit, SumMismatch}
 use Rattle.controller.specs.declared.types.Fault.{Fault}
-use Rattle.controller.specs.declared.types.Fault.the-variants.{Tree, NotData, BadLevels, BadSlots, TooFewLines, InvalidRegister, AlreadyFormatted, OtherSuite, TooManyDirty}
+use Rattle.controller.specs.declared.types.Fault.the-variants.{Tree}
 use Rattle.controller.specs.declared.types.Report.{Report}
 use Rattle.controller.specs.declared.chip.Chip.{Chip}
 use Rattle.controller.specs.Views.{fault-of, view-in, Fits}

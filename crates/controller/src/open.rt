@@ -1,5 +1,5 @@
 ghost use mathlib.Core.Path.{_≡_};
-ghost use Prim.Native.Nat.{ℕ, _<_};
+ghost use Prim.Native.Nat.{_<_};
 ghost use Rattle.machine.specs.Words.{row};
 ghost use Rattle.machine.specs.Plans.{read-call};
 ghost use Rattle.machine.specs.History.{read as reading, write as writing, flush as flushing, shut-down, nothing};

@@ -1,6 +1,5 @@
-use mathlib.Core.Path.{_≡_, refl, sym, ap, _∙_}
+use mathlib.Core.Path.{refl}
 use Rattle.std.proofs.shelf.Results.{err-from-errBy}
-use Rattle.controller.specs.Views.{fault-of}
 use Rattle.controller.proofs.Keeping.{read-kept}
 use Rattle.controller.proofs.open.Open.read.Needs as need
 

@@ -1,4 +1,4 @@
-use mathlib.Core.Path.{sym, ap, _∙_, subst}
+use mathlib.Core.Path.{sym, _∙_, subst}
 use Rattle.machine.specs.History.{shut-down, nothing}
 use Rattle.controller.specs.Worlds.{world-in, cold-in, Keeps}
 use Rattle.controller.proofs.Keeping.{shut-down-kept}
