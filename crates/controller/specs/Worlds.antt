@@ -81,6 +81,10 @@ pub record Goes-on (S : Scheme) (w : World) (l : Log) (e : Event) (x : Answer) (
 abbrev pub Keeps : Scheme → World → Event → Answer → World → Type 0
 Keeps S w e x w′ = (l : Log) → Reached eight-ary S w l → (l′ : Log) × Goes-on S w l e x w′ l′
 
+-- The same in every history of the board, under whatever suite, where a fault is latched: so it is in that of a board that was brought up under another suite's number.
+abbrev pub Keeps-latched : Maybe Fault → World → Event → Answer → World → Type 0
+Keeps-latched s w e x w′ = (f : Fault) → s ≡ Some f → (K : Scheme) → Keeps K w e x w′
+
 -- A refusal leaves zeros.
 abbrev pub Cleared : Result (Unit {0}) Fault → List ℕ → Type 0
 Cleared (Ok _) ws = Unit {0}

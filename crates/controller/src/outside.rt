@@ -32,7 +32,7 @@ fn set_power<B: Recharge>(board: &mut B, left: Option<u64>)
 impl<B: Tamper, S: Suite> Open<B, S> {
     // Puts a line in place from outside; false where the board has no such line. The chip knows nothing of it.
     pub fn tamper(&mut self, at: usize, line: Line) -> bool
-        ensures law { λ r. ⌜ Tampers (S·Suite .scheme (now (self .entry) .suite)) (world-in (B·Board .meaning (now (self .entry) .board)) (now (self .entry) .chip)) at (line-in line) r (world-in (B·Board .meaning (now (self .exit) .board)) (now (self .exit) .chip)) ⌝ }
+        ensures law { λ r. ⌜ ((K : Scheme) → Tampers K (world-in (B·Board .meaning (now (self .entry) .board)) (now (self .entry) .chip)) at (line-in line) r (world-in (B·Board .meaning (now (self .exit) .board)) (now (self .exit) .chip))) ⌝ }
         ensures put { λ r. ⌜ LinePut (B·Board .meaning (now (self .entry) .board)) at line r (B·Board .meaning (now (self .exit) .board)) ⌝ }
         ensures chip { λ _. ⌜ now (self .exit) .chip ≡ now (self .entry) .chip ⌝ }
         ensures suite { λ _. ⌜ now (self .exit) .suite ≡ now (self .entry) .suite ⌝ }

@@ -7,7 +7,6 @@ use Rattle.controller.proofs.open.Open.shut_down.Needs as need
 pub returns : need.returns
 returns g c =
     let s = c .args .self in
-    let K = g .S·Suite .scheme (s .suite) in
     let m = g .B·Board .meaning (s .board) in
     let e = c .new .ensures ∙ c .into-board .ensures in
-    record { board = e; law = subst (λ b. Keeps K (world-in m (s .chip)) shut-down nothing (cold-in (g .B·Board .meaning b))) (sym e) (shut-down-kept K m (s .chip)) }
+    record { board = e; law = λ K. subst (λ b. Keeps K (world-in m (s .chip)) shut-down nothing (cold-in (g .B·Board .meaning b))) (sym e) (shut-down-kept K m (s .chip)) }
