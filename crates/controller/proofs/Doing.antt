@@ -1,8 +1,6 @@
 -- What a writing call did, from what came of its run.
-use Prim.Native.Nat.{ℕ, _/_, _^_, _≤_, _<_}
+use Prim.Native.Nat.{ℕ, _^_, _≤_}
 use mathlib.Core.Path.{_≡_, refl, sym, ap, _∙_, subst}
-use mathlib.Core.Bool.{Bool, true, false, cond}
-use mathlib.Core.List.{List, []}
 use mathlib.Core.Option.{Option, some, none}
 use native.Mathlib.Omega.{arith}
 use lib.ListN.{length}
@@ -15,7 +13,7 @@ use Rattle.board.specs.declared.types.BoardFault.the-variants.{Absent, PowerLos
 use Rattle.controller.specs.declared.types.TreeFault.{TreeFault}
 use Rattle.controller.specs.declared.types.TreeFault.the-variants.{Board, Corrupt, AtLimit, SumMismatch}
 use Rattle.controller.specs.declared.types.Fault.{Fault}
-use Rattle.controller.specs.declared.types.Fault.the-variants.{Tree, NotData}
+use Rattle.controller.specs.declared.types.Fault.the-variants.{Tree}
 use Rattle.suite.specs.Scheme.{Body, Scheme}
 use Rattle.board.specs.Meaning.{Meaning}
 use Rattle.machine.specs.Layout.{eight-ary, lines-of}
@@ -76,7 +74,7 @@ module _ (S : Scheme) (m : Meaning) (n : ℕ) (t : Table) (lv used : ℕ) (s : M
         (λ l. let v = call-ran S m n m′ t′ k r y W l in
         (v .0, subst (λ (a : Result (Unit {0}) Fault). Ran n r (state-in m) l (report-by a k) (world-by m′ s′ n t′) (v .0)) (sym zi) (subst (λ (b : Maybe Fault). Ran n r (state-in m) l (report-by (controller-says y) k) (world-by m′ b n t′) (v .0)) (sym si) (v .1))))
 
-    -- Nothing but a refusal.
+    -- A refusal and nothing else.
     pub does-stop : call-check m lv used ≡ none → (x : Why) → (x .cause ≡ power-lost → ⊥) → stop (view-in m t) x ≡ r → Runs-as s (call-check m lv used) m n t r (refused x 0) m (world-by m s n t)
     does-stop q x f e =
         subst (λ (y : Maybe Fault). Runs-as s (call-check m lv used) m n t r (refused x 0) m (world-by m y n t)) (sym p)

@@ -1,8 +1,8 @@
 -- Tampering and recharging are events of a history.
 use Prim.Native.Nat.{ℕ}
-use mathlib.Core.Path.{_≡_, refl, sym, ap, _∙_}
+use mathlib.Core.Path.{_≡_, refl, ap, _∙_}
 use mathlib.Core.Bool.{Bool, true, false}
-use lib.ListN.{length, set, length-set}
+use lib.ListN.{length, length-set}
 use Rattle.std.specs.declared.option.Option.{Option as Maybe}
 use Rattle.std.specs.declared.option.Option.the-variants.{Some, None}
 use Rattle.board.specs.Meaning.{Meaning, Power}
@@ -12,7 +12,7 @@ use Rattle.suite.specs.Scheme.{Scheme}
 use Rattle.machine.specs.Layout.{eight-ary}
 use Rattle.machine.specs.Store.{Log, BoardState}
 use Rattle.machine.specs.Words.{line-in, register-in, memory-in, state-in}
-use Rattle.machine.specs.History.{World, Event, tamper, recharge, Answer, nothing, tampered, recharged, Fair, Step, Reached}
+use Rattle.machine.specs.History.{World, Event, tamper, recharge, Answer, nothing, tampered, Step}
 use Rattle.machine.proofs.EightAry.{eight-trees}
 use Rattle.machine.proofs.HistoryHolds.{keeps-promises}
 use Rattle.machine.proofs.ReachedFacts.{step-law}

@@ -1,13 +1,11 @@
 -- Reads, from what the code found.
-use Prim.Native.Nat.{ℕ, zero, suc, _+_, _-_, _*_, _/_, _%_, _^_, _≤_, _<_}
+use Prim.Native.Nat.{ℕ, _^_, _≤_, _<_}
 use mathlib.Core.Path.{_≡_, refl, sym, ap, _∙_}
-use mathlib.Core.Bool.{Bool, true, false, cond, _&&_}
-use mathlib.Core.List.{List, [], _∷_, _++_}
-use native.Mathlib.Omega.{arith}
-use lib.Dec.{eqb, leb, ltb}
+use mathlib.Core.Bool.{Bool, true, false, cond}
+use mathlib.Core.List.{List}
 use lib.ListN.{getD}
 use Rattle.std.proofs.shelf.Tests.{lt-ltb, le-ltb}
-use mathlib.Core.Option.{Option, some, none}
+use mathlib.Core.Option.{some, none}
 use Rattle.machine.proofs.Basics.{none≢some, some-inj}
 use Rattle.suite.specs.Words.{open-data, Answers}
 use Rattle.suite.specs.Scheme.{Body, Scheme, right, mix}

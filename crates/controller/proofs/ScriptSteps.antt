@@ -11,7 +11,7 @@ use Rattle.machine.specs.Layout.{eight-ary}
 use Rattle.machine.specs.Store.{Log}
 use Rattle.board.specs.declared.types.Line.{Line as Stored}
 use Rattle.machine.specs.Words.{line-in}
-use Rattle.machine.specs.History.{World, tamper, Answer, nothing, Fair, Reached}
+use Rattle.machine.specs.History.{World, tamper, Answer, nothing, Reached}
 use Rattle.machine.specs.History.{Event as Happening}
 use Rattle.machine.proofs.EightAry.{eight-trees}
 use Rattle.machine.proofs.HistoryHolds.{keeps-promises}
@@ -19,7 +19,7 @@ use Rattle.controller.specs.declared.event.Event.{Event}
 use Rattle.controller.specs.declared.event.Event.the-variants.{Tamper}
 use Rattle.controller.specs.declared.event.Reply.{Reply}
 use Rattle.controller.specs.declared.event.Reply.the-variants.{Put}
-use Rattle.controller.specs.Worlds.{Goes-on, Keeps}
+use Rattle.controller.specs.Worlds.{Keeps}
 use Rattle.controller.specs.Outside.{Keeps-fair, Tampers}
 use Rattle.controller.specs.Scripts.{Trace, Goes-through, Keeps-through, Traces, Plays-one, All-traces, Plays}
 

@@ -1,9 +1,8 @@
 -- Scripts: many events in a row on one board, each finding what came before.
 use Prim.Native.Nat.{ℕ}
 use mathlib.Core.Path.{_≡_}
-use mathlib.Core.Bool.{Bool, true, false}
+use mathlib.Core.Bool.{true, false}
 use mathlib.Core.List.{List, [], _∷_, _++_}
-use Rattle.std.specs.declared.option.Option.{Option as Maybe}
 use Rattle.board.specs.Meaning.{Power, lesser}
 use Rattle.suite.specs.Scheme.{Scheme}
 use Rattle.machine.specs.Layout.{eight-ary}

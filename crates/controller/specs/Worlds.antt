@@ -1,13 +1,12 @@
 -- Boards and chips as points of a history, and what the calls keep and do.
-use Prim.Native.Nat.{ℕ, _≤_, _<_}
+use Prim.Native.Nat.{ℕ, _<_}
 use mathlib.Core.Path.{_≡_}
-use mathlib.Core.Bool.{Bool, cond, _&&_, _||_}
+use mathlib.Core.Bool.{cond, _&&_, _||_}
 use mathlib.Core.List.{List}
 use mathlib.Core.Option.{Option, some, none}
 use lib.Dec.{leb, eqb}
 use lib.ListN.{length, replicate}
 use Rattle.board.specs.Meaning.{Meaning}
-use Rattle.board.specs.declared.types.BoardFault.{BoardFault}
 use Rattle.board.specs.declared.types.BoardFault.the-variants.{Absent, PowerLost}
 use Rattle.std.specs.declared.result.Result.{Result}
 use Rattle.std.specs.declared.result.Result.the-variants.{Ok, Err}
@@ -28,7 +27,7 @@ use Rattle.tree.specs.declared.types.Layout.{Layout}
 use Rattle.controller.specs.declared.types.TreeFault.{TreeFault}
 use Rattle.controller.specs.declared.types.TreeFault.the-variants.{Board, Corrupt, AtLimit, SumMismatch}
 use Rattle.controller.specs.declared.types.Fault.{Fault}
-use Rattle.controller.specs.declared.types.Fault.the-variants.{Tree, NotData, BadLevels, BadSlots, TooFewLines, InvalidRegister, AlreadyFormatted, OtherSuite, TooManyDirty}
+use Rattle.controller.specs.declared.types.Fault.the-variants.{Tree}
 use Rattle.controller.specs.declared.types.Report.{Report}
 use Rattle.controller.specs.declared.chip.Chip.{Chip}
 use Rattle.controller.specs.Views.{fault-of, view-in, Fits}
@@ -80,6 +79,10 @@ pub record Goes-on (S : Scheme) (w : World) (l : Log) (e : Event) (x : Answer) (
 -- In every history that came to world w, event e with answer x goes on to w′.
 abbrev pub Keeps : Scheme → World → Event → Answer → World → Type 0
 Keeps S w e x w′ = (l : Log) → Reached eight-ary S w l → (l′ : Log) × Goes-on S w l e x w′ l′
+
+-- The same in every history of the board, under whatever suite, where a fault is latched: so it is in that of a board that was brought up under another suite's number.
+abbrev pub Keeps-latched : Maybe Fault → World → Event → Answer → World → Type 0
+Keeps-latched s w e x w′ = (f : Fault) → s ≡ Some f → (K : Scheme) → Keeps K w e x w′
 
 -- A refusal leaves zeros.
 abbrev pub Cleared : Result (Unit {0}) Fault → List ℕ → Type 0

@@ -1,12 +1,13 @@
 ghost use mathlib.Core.Path.{_≡_};
-ghost use Prim.Native.Nat.{ℕ, _<_};
+ghost use Prim.Native.Nat.{_<_};
+ghost use Rattle.suite.specs.Scheme.{Scheme};
 ghost use Rattle.machine.specs.Words.{row};
 ghost use Rattle.machine.specs.Plans.{read-call};
 ghost use Rattle.machine.specs.History.{read as reading, write as writing, flush as flushing, shut-down, nothing};
 ghost use Rattle.tree.specs.Layouts.{shape-in};
 ghost use Rattle.tree.specs.SlotTable.{table-in};
 ghost use Rattle.controller.specs.Views.{view-in, body-in, Fits, Opened};
-ghost use Rattle.controller.specs.Worlds.{world-in, cold-in, body-answer, read-in, report-by, report-in, Keeps, Cleared, Layout-found, Does, write-plan, flush-plan, read-of};
+ghost use Rattle.controller.specs.Worlds.{world-in, cold-in, body-answer, read-in, report-by, report-in, Keeps, Keeps-latched, Cleared, Layout-found, Does, write-plan, flush-plan, read-of};
 use crate::chip::Chip;
 use crate::cold::Cold;
 use crate::counters::counter_of;
@@ -105,6 +106,7 @@ impl<B: Board, S: Suite> Open<B, S> {
     // Reads the body of data line `at` into `body`, which a refusal leaves as zeros.
     pub fn read(&self, at: usize, body: &mut [u64; 8]) -> Result<(), Fault>
         ensures law { λ r. ⌜ Keeps (S·Suite .scheme (now (self .entry) .suite)) (world-in (B·Board .meaning (now (self .entry) .board)) (now (self .entry) .chip)) (reading at) (read-in r (now (body .exit))) (world-in (B·Board .meaning (now (self .entry) .board)) (now (self .entry) .chip)) ⌝ }
+        ensures others { λ r. ⌜ Keeps-latched (now (self .entry) .chip .latched) (world-in (B·Board .meaning (now (self .entry) .board)) (now (self .entry) .chip)) (reading at) (read-in r (now (body .exit))) (world-in (B·Board .meaning (now (self .entry) .board)) (now (self .entry) .chip)) ⌝ }
         ensures does { λ r. ⌜ read-in r (now (body .exit)) ≡ read-of (S·Suite .scheme (now (self .entry) .suite)) (B·Board .meaning (now (self .entry) .board)) (now (self .entry) .chip) at ⌝ }
         ensures zeros { λ r. ⌜ Cleared r (now (body .exit)) ⌝ }
     {
@@ -144,6 +146,7 @@ impl<B: Board, S: Suite> Open<B, S> {
     // Writes `body` to data line `at`: reports the commits made, refused or not.
     pub fn write(&mut self, at: usize, body: &[u64; 8]) -> Report
         ensures law { λ r. ⌜ Keeps (S·Suite .scheme (now (self .entry) .suite)) (world-in (B·Board .meaning (now (self .entry) .board)) (now (self .entry) .chip)) (writing at (row (now (body .entry)))) (report-in r) (world-in (B·Board .meaning (now (self .exit) .board)) (now (self .exit) .chip)) ⌝ }
+        ensures others { λ r. ⌜ Keeps-latched (now (self .entry) .chip .latched) (world-in (B·Board .meaning (now (self .entry) .board)) (now (self .entry) .chip)) (writing at (row (now (body .entry)))) (report-in r) (world-in (B·Board .meaning (now (self .exit) .board)) (now (self .exit) .chip)) ⌝ }
         ensures does { λ r. ⌜ Does (write-plan (S·Suite .scheme (now (self .entry) .suite)) (B·Board .meaning (now (self .entry) .board)) (now (self .entry) .chip) at (row (now (body .entry)))) (B·Board .meaning (now (self .entry) .board)) (now (self .entry) .chip) (report-in r) (B·Board .meaning (now (self .exit) .board)) (now (self .exit) .chip) ⌝ }
         ensures suite { λ _. ⌜ now (self .exit) .suite ≡ now (self .entry) .suite ⌝ }
     {
@@ -177,6 +180,7 @@ impl<B: Board, S: Suite> Open<B, S> {
     // Evicts every dirty node: reports the commits made, refused or not.
     pub fn flush(&mut self) -> Report
         ensures law { λ r. ⌜ Keeps (S·Suite .scheme (now (self .entry) .suite)) (world-in (B·Board .meaning (now (self .entry) .board)) (now (self .entry) .chip)) flushing (report-in r) (world-in (B·Board .meaning (now (self .exit) .board)) (now (self .exit) .chip)) ⌝ }
+        ensures others { λ r. ⌜ Keeps-latched (now (self .entry) .chip .latched) (world-in (B·Board .meaning (now (self .entry) .board)) (now (self .entry) .chip)) flushing (report-in r) (world-in (B·Board .meaning (now (self .exit) .board)) (now (self .exit) .chip)) ⌝ }
         ensures does { λ r. ⌜ Does (flush-plan (S·Suite .scheme (now (self .entry) .suite)) (B·Board .meaning (now (self .entry) .board)) (now (self .entry) .chip)) (B·Board .meaning (now (self .entry) .board)) (now (self .entry) .chip) (report-in r) (B·Board .meaning (now (self .exit) .board)) (now (self .exit) .chip) ⌝ }
         ensures suite { λ _. ⌜ now (self .exit) .suite ≡ now (self .entry) .suite ⌝ }
     {
@@ -190,16 +194,23 @@ impl<B: Board, S: Suite> Open<B, S> {
 }
 
 impl<B: Board, S: Suite + Drop> Open<B, S> {
-    // Takes the board down: what the chip holds is lost, as at a loss of power.
-    pub fn shut_down(self) -> Cold<B>
-        ensures board { λ r. ⌜ r .board ≡ self .board ⌝ }
-        ensures law { λ r. ⌜ Keeps (S·Suite .scheme (self .suite)) (world-in (B·Board .meaning (self .board)) (self .chip)) shut-down nothing (cold-in (B·Board .meaning (r .board))) ⌝ }
+    // The board alone: what the chip holds is lost.
+    fn into_board(self) -> B
+        ensures { λ r. ⌜ r ≡ self .board ⌝ }
     {
         let Open {
             board,
             suite: _suite,
             chip: _chip,
         } = self;
-        Cold { board }
+        board
+    }
+
+    // Takes the board down, as a loss of power would.
+    pub fn shut_down(self) -> Cold<B>
+        ensures board { λ r. ⌜ r .board ≡ self .board ⌝ }
+        ensures law { λ r. ⌜ ((K : Scheme) → Keeps K (world-in (B·Board .meaning (self .board)) (self .chip)) shut-down nothing (cold-in (B·Board .meaning (r .board)))) ⌝ }
+    {
+        Cold::new(self.into_board())
     }
 }

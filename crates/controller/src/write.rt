@@ -1,7 +1,7 @@
 ghost use mathlib.Core.Path.{_≡_};
 ghost use mathlib.Core.Bool.{false};
 ghost use mathlib.Core.Option.{none};
-ghost use Prim.Native.Nat.{ℕ, _+_, _-_, _<_, _≤_};
+ghost use Prim.Native.Nat.{_+_, _-_, _<_, _≤_};
 ghost use Rattle.machine.specs.Words.{row};
 ghost use Rattle.machine.specs.Plans.{overdue, evict-overdue, write-call};
 ghost use Rattle.tree.specs.Layouts.{shape-in};

@@ -1,9 +1,9 @@
 use borrow.Author.Needs.{needs}
-use mathlib.Core.Path.{_≡_, refl, sym, _∙_, ap, subst}
+use mathlib.Core.Path.{_≡_, refl, _∙_, subst}
 use native.Mathlib.Omega.{arith}
 use Prim.Native.Nat.{ℕ}
-use lib.ListN.{length, getD, take, drop}
-use Rattle.std.proofs.shelf.Lists.{length-set, drop-set-lt}
+use lib.ListN.{length, getD, take}
+use Rattle.std.proofs.shelf.Lists.{length-set}
 use Rattle.controller.specs.declared.event.Event.the-variants.{Read}
 use Rattle.controller.specs.Worlds.{world-in}
 use Rattle.controller.specs.Scripts.{Plays, Plays-one}
