@@ -79,3 +79,10 @@ All-traces cap num (e ∷ es) (r ∷ rs) t = (t₁ t₂ : Trace) × (t ≡ t₁ 
 -- A script, from world w to w′.
 abbrev pub Plays : Scheme → ℕ → World → List Event → List Reply → World → Type 0
 Plays S cap w es rs w′ = (t : Trace) × All-traces cap (S .number) es rs t × Keeps-through S w t w′
+
+-- What a script does on any board and chip, in a history or not: each event finds what came before.
+abbrev pub Does-all : Scheme → ℕ → Meaning → Chip → List Event → List Reply → Meaning → Chip → Type 0
+Does-all S cap m c [] [] m′ c′ = (m′ ≡ m) × (c′ ≡ c)
+Does-all S cap m c [] (r ∷ rs) m′ c′ = ⊥
+Does-all S cap m c (e ∷ es) [] m′ c′ = ⊥
+Does-all S cap m c (e ∷ es) (r ∷ rs) m′ c′ = (p : Power) × (m₁ : Meaning) × (c₁ : Chip) × Does-one S cap p m c e r m₁ c₁ × Does-all S cap m₁ c₁ es rs m′ c′

@@ -4,7 +4,7 @@ ghost use Prim.Native.Nat.{ℕ, _<_, min};
 ghost use lib.ListN.{length, getD, take, drop};
 ghost use Rattle.board.specs.Meaning.{endless};
 ghost use Rattle.controller.specs.Worlds.{world-in, read-in, report-by};
-ghost use Rattle.controller.specs.Scripts.{answer-in, Plays-one, Does-one, Plays};
+ghost use Rattle.controller.specs.Scripts.{answer-in, Plays-one, Does-one, Plays, Does-all};
 ghost use Rattle.controller.specs.declared.event.Event.the-variants.{Read as Reading, Write as Writing, Flush as Flushing, Restart, Recharge as Recharging, Tamper as Tampering};
 use crate::event::Event;
 use crate::event::Reply;
@@ -121,6 +121,7 @@ impl<B: Tamper + Recharge, S: Suite + Copy> Open<B, S> {
     fn run_at(self, slots: u64, events: &[Event], i: usize) -> (Open<B, S>, Reply)
         requires { ⌜ i < length (now events) ⌝ }
         ensures plays { λ r. ⌜ Plays-one (S·Suite .scheme (self .suite)) slots (world-in (B·Board .meaning (self .board)) (self .chip)) (getD (now (events .entry)) i (Reading 0)) (r .1) (world-in (B·Board .meaning (r .0 .board)) (r .0 .chip)) ⌝ }
+        ensures does { λ r. ⌜ Does-one (S·Suite .scheme (self .suite)) slots (B·Recharge .supply (self .board)) (B·Board .meaning (self .board)) (self .chip) (getD (now (events .entry)) i (Reading 0)) (r .1) (B·Board .meaning (r .0 .board)) (r .0 .chip) ⌝ }
         ensures suite { λ r. ⌜ r .0 .suite ≡ self .suite ⌝ }
     {
         self.run(slots, &events[i])
@@ -129,6 +130,7 @@ impl<B: Tamper + Recharge, S: Suite + Copy> Open<B, S> {
     // Runs events one after another, as many as there is room for replies. Each finds what came before.
     pub fn run_script(self, slots: u64, events: &[Event], replies: &mut [Reply]) -> Open<B, S>
         ensures plays { λ r. ⌜ Plays (S·Suite .scheme (self .suite)) slots (world-in (B·Board .meaning (self .board)) (self .chip)) (take (min (length (now (events .entry))) (length (now (replies .entry)))) (now (events .entry))) (take (min (length (now (events .entry))) (length (now (replies .entry)))) (now (replies .exit))) (world-in (B·Board .meaning (r .board)) (r .chip)) ⌝ }
+        ensures does { λ r. ⌜ Does-all (S·Suite .scheme (self .suite)) slots (B·Board .meaning (self .board)) (self .chip) (take (min (length (now (events .entry))) (length (now (replies .entry)))) (now (events .entry))) (take (min (length (now (events .entry))) (length (now (replies .entry)))) (now (replies .exit))) (B·Board .meaning (r .board)) (r .chip) ⌝ }
         ensures rest { λ _. ⌜ drop (length (now (events .entry))) (now (replies .exit)) ≡ drop (length (now (events .entry))) (now (replies .entry)) ⌝ }
         ensures suite { λ r. ⌜ r .suite ≡ self .suite ⌝ }
     {
