@@ -7,6 +7,7 @@ use mathlib.Core.Bool.{Bool, true, false}
 use mathlib.Core.Path.{_≡_, refl, sym, ap, _∙_, subst}
 use mathlib.Core.List.{List, [], _∷_, _++_, append-nil, append-assoc}
 use Rattle.suite.specs.Scheme.{Scheme}
+use Rattle.board.specs.Meaning.{Meaning, Power}
 use Rattle.machine.specs.Layout.{eight-ary}
 use Rattle.machine.specs.Store.{Log}
 use Rattle.board.specs.declared.types.Line.{Line as Stored}
@@ -15,13 +16,14 @@ use Rattle.machine.specs.History.{World, tamper, Answer, nothing, Reached}
 use Rattle.machine.specs.History.{Event as Happening}
 use Rattle.machine.proofs.EightAry.{eight-trees}
 use Rattle.machine.proofs.HistoryHolds.{keeps-promises}
+use Rattle.controller.specs.declared.chip.Chip.{Chip}
 use Rattle.controller.specs.declared.event.Event.{Event}
 use Rattle.controller.specs.declared.event.Event.the-variants.{Tamper}
 use Rattle.controller.specs.declared.event.Reply.{Reply}
 use Rattle.controller.specs.declared.event.Reply.the-variants.{Put}
 use Rattle.controller.specs.Worlds.{Keeps}
 use Rattle.controller.specs.Outside.{Keeps-fair, Tampers}
-use Rattle.controller.specs.Scripts.{Trace, Goes-through, Keeps-through, Traces, Plays-one, All-traces, Plays}
+use Rattle.controller.specs.Scripts.{Trace, Goes-through, Keeps-through, Traces, Plays-one, Does-one, All-traces, Plays, Does-all}
 
 module _ (S : Scheme) where
   -- Nothing happened.
@@ -87,6 +89,19 @@ module _ (S : Scheme) where
       let s : take i es ++ e ∷ [] ≡ take (i + 1) es = ap (λ x. take i es ++ x ∷ []) q ∙ sym (take-more es i d h) in
       let t : take i rs ++ r ∷ [] ≡ take (i + 1) (set rs i r) = sym (take-more-set rs i r k) in
       subst (λ (x : List Reply). Plays S cap w (take (i + 1) es) x w₂) t (subst (λ (x : List Event). Plays S cap w x (take i rs ++ r ∷ []) w₂) s (plays-more cap w w₁ w₂ (take i es) (take i rs) e r a b))
+
+  -- One event more, on any board.
+  does-more : (cap : ℕ) (p : Power) (m m₁ m₂ : Meaning) (c c₁ c₂ : Chip) (es : List Event) (rs : List Reply) (e : Event) (r : Reply) → Does-all S cap m c es rs m₁ c₁ → Does-one S cap p m₁ c₁ e r m₂ c₂ → Does-all S cap m c (es ++ e ∷ []) (rs ++ r ∷ []) m₂ c₂
+  does-more cap p m m₁ m₂ c c₁ c₂ [] [] e r (q, h) d = (p, m₂, c₂, subst (λ (x : Meaning). Does-one S cap p x c e r m₂ c₂) q (subst (λ (x : Chip). Does-one S cap p m₁ x e r m₂ c₂) h d), (refl, refl))
+  does-more cap p m m₁ m₂ c c₁ c₂ [] (s ∷ rs) e r a d = absurd a
+  does-more cap p m m₁ m₂ c c₁ c₂ (f ∷ es) [] e r a d = absurd a
+  does-more cap p m m₁ m₂ c c₁ c₂ (f ∷ es) (s ∷ rs) e r (p′, m′, c′, b, a) d = (p′, m′, c′, b, does-more cap p m′ m₁ m₂ c′ c₁ c₂ es rs e r a d)
+
+  -- The same of event i of a script, its reply put in place.
+  pub script-does : (cap : ℕ) (p : Power) (m m₁ m₂ : Meaning) (c c₁ c₂ : Chip) (es : List Event) (rs : List Reply) (i : ℕ) (d : Event) (r : Reply) → i < length es → i < length rs → Does-all S cap m c (take i es) (take i rs) m₁ c₁ → Does-one S cap p m₁ c₁ (getD es i d) r m₂ c₂ → Does-all S cap m c (take (i + 1) es) (take (i + 1) (set rs i r)) m₂ c₂
+  script-does cap p m m₁ m₂ c c₁ c₂ es rs i d r h k a b =
+      subst (λ (x : List Reply). Does-all S cap m c (take (i + 1) es) x m₂ c₂) (sym (take-more-set rs i r k))
+      (subst (λ (x : List Event). Does-all S cap m c x (take i rs ++ r ∷ []) m₂ c₂) (sym (take-more es i d h)) (does-more cap p m m₁ m₂ c c₁ c₂ (take i es) (take i rs) (getD es i d) r a b))
 
 -- Lists that agree behind a place agree behind a later one.
 pub dropped-all : (rs ss : List Reply) (i n : ℕ) → i ≤ n → drop i rs ≡ drop i ss → drop n rs ≡ drop n ss

@@ -3,7 +3,8 @@ use Prim.Native.Nat.{ℕ}
 use mathlib.Core.Path.{_≡_}
 use mathlib.Core.Bool.{true, false}
 use mathlib.Core.List.{List, [], _∷_, _++_}
-use Rattle.board.specs.Meaning.{Power, lesser}
+use Rattle.board.specs.Meaning.{Meaning, Power, lesser}
+use Rattle.board.specs.Tampering.{LinePut, Recharged}
 use Rattle.suite.specs.Scheme.{Scheme}
 use Rattle.machine.specs.Layout.{eight-ary}
 use Rattle.machine.specs.Store.{Log}
@@ -16,7 +17,9 @@ use Rattle.controller.specs.declared.event.Event.the-variants.{Read, Write, Fl
 use Rattle.controller.specs.declared.event.Reply.{Reply}
 use Rattle.controller.specs.declared.event.Reply.the-variants.{Body, Done, Refused, Put}
 use Rattle.controller.specs.Views.{fault-of}
-use Rattle.controller.specs.Worlds.{Goes-on}
+use Rattle.controller.specs.declared.chip.Chip.{Chip}
+use Rattle.controller.specs.Worlds.{world-in, Goes-on, Does, write-plan, flush-plan, read-of}
+use Rattle.controller.specs.BringUps.{Brings-up}
 
 -- What happened and what it answered, in order.
 abbrev pub Trace : Type 0
@@ -56,6 +59,15 @@ Traces cap num (Tamper a l) (Refused f n) t = ⊥
 abbrev pub Plays-one : Scheme → ℕ → World → Event → Reply → World → Type 0
 Plays-one S cap w e r w′ = (t : Trace) × Traces cap (S .number) e r t × Keeps-through S w t w′
 
+-- What one event of a script does on any board and chip, in a history or not; a board that is recharged can draw on supply p.
+abbrev pub Does-one : Scheme → ℕ → Power → Meaning → Chip → Event → Reply → Meaning → Chip → Type 0
+Does-one S cap p m c (Read a) r m′ c′ = (answer-in r ≡ read-of S m c a) × (m′ ≡ m) × (c′ ≡ c)
+Does-one S cap p m c (Write a b) r m′ c′ = Does (write-plan S m c a (row b)) m c (answer-in r) m′ c′
+Does-one S cap p m c Flush r m′ c′ = Does (flush-plan S m c) m c (answer-in r) m′ c′
+Does-one S cap p m c Restart r m′ c′ = Brings-up S cap m (answer-in r) m′ (world-in m′ c′)
+Does-one S cap p m c (Recharge left) r m′ c′ = (m₁ : Meaning) × Recharged m p left m₁ × Brings-up S cap m₁ (answer-in r) m′ (world-in m′ c′)
+Does-one S cap p m c (Tamper a l) r m′ c′ = (placed : Bool) × (r ≡ Put placed) × LinePut m a l placed m′ × (c′ ≡ c)
+
 -- The events of a script in order, each with its reply.
 abbrev pub All-traces : ℕ → ℕ → List Event → List Reply → Trace → Type 0
 All-traces cap num [] [] t = t ≡ []
@@ -66,3 +78,10 @@ All-traces cap num (e ∷ es) (r ∷ rs) t = (t₁ t₂ : Trace) × (t ≡ t₁ 
 -- A script, from world w to w′.
 abbrev pub Plays : Scheme → ℕ → World → List Event → List Reply → World → Type 0
 Plays S cap w es rs w′ = (t : Trace) × All-traces cap (S .number) es rs t × Keeps-through S w t w′
+
+-- What a script does on any board and chip, in a history or not: each event finds what came before.
+abbrev pub Does-all : Scheme → ℕ → Meaning → Chip → List Event → List Reply → Meaning → Chip → Type 0
+Does-all S cap m c [] [] m′ c′ = (m′ ≡ m) × (c′ ≡ c)
+Does-all S cap m c [] (r ∷ rs) m′ c′ = ⊥
+Does-all S cap m c (e ∷ es) [] m′ c′ = ⊥
+Does-all S cap m c (e ∷ es) (r ∷ rs) m′ c′ = (p : Power) × (m₁ : Meaning) × (c₁ : Chip) × Does-one S cap p m c e r m₁ c₁ × Does-all S cap m₁ c₁ es rs m′ c′

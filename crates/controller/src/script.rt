@@ -2,8 +2,9 @@
 ghost use mathlib.Core.Path.{_≡_};
 ghost use Prim.Native.Nat.{ℕ, _<_, min};
 ghost use lib.ListN.{length, getD, take, drop};
+ghost use Rattle.board.specs.Meaning.{endless};
 ghost use Rattle.controller.specs.Worlds.{world-in, read-in, report-by};
-ghost use Rattle.controller.specs.Scripts.{answer-in, Plays-one, Plays};
+ghost use Rattle.controller.specs.Scripts.{answer-in, Plays-one, Does-one, Plays, Does-all};
 ghost use Rattle.controller.specs.declared.event.Event.the-variants.{Read as Reading, Write as Writing, Flush as Flushing, Restart, Recharge as Recharging, Tamper as Tampering};
 use crate::event::Event;
 use crate::event::Reply;
@@ -38,6 +39,7 @@ impl<B: Tamper + Recharge, S: Suite + Copy> Open<B, S> {
     // Reads the body at an address.
     fn play_read(self, at: usize) -> (Open<B, S>, Reply)
         ensures plays { λ r. ⌜ ((n : ℕ) → Plays-one (S·Suite .scheme (self .suite)) n (world-in (B·Board .meaning (self .board)) (self .chip)) (Reading at) (r .1) (world-in (B·Board .meaning (r .0 .board)) (r .0 .chip))) ⌝ }
+        ensures does { λ r. ⌜ Does-one (S·Suite .scheme (self .suite)) 0 endless (B·Board .meaning (self .board)) (self .chip) (Reading at) (r .1) (B·Board .meaning (r .0 .board)) (r .0 .chip) ⌝ }
         ensures suite { λ r. ⌜ r .0 .suite ≡ self .suite ⌝ }
     {
         let mut body = [0; 8];
@@ -48,6 +50,7 @@ impl<B: Tamper + Recharge, S: Suite + Copy> Open<B, S> {
     // Writes a body at an address.
     fn play_write(mut self, at: usize, body: &[u64; 8]) -> (Open<B, S>, Reply)
         ensures plays { λ r. ⌜ ((n : ℕ) → Plays-one (S·Suite .scheme (self .suite)) n (world-in (B·Board .meaning (self .board)) (self .chip)) (Writing at (now (body .entry))) (r .1) (world-in (B·Board .meaning (r .0 .board)) (r .0 .chip))) ⌝ }
+        ensures does { λ r. ⌜ Does-one (S·Suite .scheme (self .suite)) 0 endless (B·Board .meaning (self .board)) (self .chip) (Writing at (now (body .entry))) (r .1) (B·Board .meaning (r .0 .board)) (r .0 .chip) ⌝ }
         ensures suite { λ r. ⌜ r .0 .suite ≡ self .suite ⌝ }
     {
         let report = self.write(at, body);
@@ -57,6 +60,7 @@ impl<B: Tamper + Recharge, S: Suite + Copy> Open<B, S> {
     // Evicts every dirty node.
     fn play_flush(mut self) -> (Open<B, S>, Reply)
         ensures plays { λ r. ⌜ ((n : ℕ) → Plays-one (S·Suite .scheme (self .suite)) n (world-in (B·Board .meaning (self .board)) (self .chip)) Flushing (r .1) (world-in (B·Board .meaning (r .0 .board)) (r .0 .chip))) ⌝ }
+        ensures does { λ r. ⌜ Does-one (S·Suite .scheme (self .suite)) 0 endless (B·Board .meaning (self .board)) (self .chip) Flushing (r .1) (B·Board .meaning (r .0 .board)) (r .0 .chip) ⌝ }
         ensures suite { λ r. ⌜ r .0 .suite ≡ self .suite ⌝ }
     {
         let report = self.flush();
@@ -66,6 +70,7 @@ impl<B: Tamper + Recharge, S: Suite + Copy> Open<B, S> {
     // Shuts the board down and brings it up again.
     fn restart(self, slots: u64) -> (Open<B, S>, Reply)
         ensures plays { λ r. ⌜ Plays-one (S·Suite .scheme (self .suite)) slots (world-in (B·Board .meaning (self .board)) (self .chip)) Restart (r .1) (world-in (B·Board .meaning (r .0 .board)) (r .0 .chip)) ⌝ }
+        ensures does { λ r. ⌜ Does-one (S·Suite .scheme (self .suite)) slots endless (B·Board .meaning (self .board)) (self .chip) Restart (r .1) (B·Board .meaning (r .0 .board)) (r .0 .chip) ⌝ }
         ensures suite { λ r. ⌜ r .0 .suite ≡ self .suite ⌝ }
     {
         let suite = self.suite;
@@ -76,6 +81,7 @@ impl<B: Tamper + Recharge, S: Suite + Copy> Open<B, S> {
     // Shuts the board down, sets its power anew and brings it up again.
     fn restart_with(self, slots: u64, left: Option<u64>) -> (Open<B, S>, Reply)
         ensures plays { λ r. ⌜ Plays-one (S·Suite .scheme (self .suite)) slots (world-in (B·Board .meaning (self .board)) (self .chip)) (Recharging left) (r .1) (world-in (B·Board .meaning (r .0 .board)) (r .0 .chip)) ⌝ }
+        ensures does { λ r. ⌜ Does-one (S·Suite .scheme (self .suite)) slots (B·Recharge .supply (self .board)) (B·Board .meaning (self .board)) (self .chip) (Recharging left) (r .1) (B·Board .meaning (r .0 .board)) (r .0 .chip) ⌝ }
         ensures suite { λ r. ⌜ r .0 .suite ≡ self .suite ⌝ }
     {
         let suite = self.suite;
@@ -88,6 +94,7 @@ impl<B: Tamper + Recharge, S: Suite + Copy> Open<B, S> {
     // Puts a line in place from outside.
     fn put_line(mut self, at: usize, line: Line) -> (Open<B, S>, Reply)
         ensures plays { λ r. ⌜ ((n : ℕ) → Plays-one (S·Suite .scheme (self .suite)) n (world-in (B·Board .meaning (self .board)) (self .chip)) (Tampering at line) (r .1) (world-in (B·Board .meaning (r .0 .board)) (r .0 .chip))) ⌝ }
+        ensures does { λ r. ⌜ Does-one (S·Suite .scheme (self .suite)) 0 endless (B·Board .meaning (self .board)) (self .chip) (Tampering at line) (r .1) (B·Board .meaning (r .0 .board)) (r .0 .chip) ⌝ }
         ensures suite { λ r. ⌜ r .0 .suite ≡ self .suite ⌝ }
     {
         let placed = self.tamper(at, line);
@@ -97,6 +104,7 @@ impl<B: Tamper + Recharge, S: Suite + Copy> Open<B, S> {
     // One event of a script, on a board with so many slots.
     pub fn run(self, slots: u64, event: &Event) -> (Open<B, S>, Reply)
         ensures plays { λ r. ⌜ Plays-one (S·Suite .scheme (self .suite)) slots (world-in (B·Board .meaning (self .board)) (self .chip)) (now (event .entry)) (r .1) (world-in (B·Board .meaning (r .0 .board)) (r .0 .chip)) ⌝ }
+        ensures does { λ r. ⌜ Does-one (S·Suite .scheme (self .suite)) slots (B·Recharge .supply (self .board)) (B·Board .meaning (self .board)) (self .chip) (now (event .entry)) (r .1) (B·Board .meaning (r .0 .board)) (r .0 .chip) ⌝ }
         ensures suite { λ r. ⌜ r .0 .suite ≡ self .suite ⌝ }
     {
         match event {
@@ -113,6 +121,7 @@ impl<B: Tamper + Recharge, S: Suite + Copy> Open<B, S> {
     fn run_at(self, slots: u64, events: &[Event], i: usize) -> (Open<B, S>, Reply)
         requires { ⌜ i < length (now events) ⌝ }
         ensures plays { λ r. ⌜ Plays-one (S·Suite .scheme (self .suite)) slots (world-in (B·Board .meaning (self .board)) (self .chip)) (getD (now (events .entry)) i (Reading 0)) (r .1) (world-in (B·Board .meaning (r .0 .board)) (r .0 .chip)) ⌝ }
+        ensures does { λ r. ⌜ Does-one (S·Suite .scheme (self .suite)) slots (B·Recharge .supply (self .board)) (B·Board .meaning (self .board)) (self .chip) (getD (now (events .entry)) i (Reading 0)) (r .1) (B·Board .meaning (r .0 .board)) (r .0 .chip) ⌝ }
         ensures suite { λ r. ⌜ r .0 .suite ≡ self .suite ⌝ }
     {
         self.run(slots, &events[i])
@@ -121,6 +130,7 @@ impl<B: Tamper + Recharge, S: Suite + Copy> Open<B, S> {
     // Runs events one after another, as many as there is room for replies. Each finds what came before.
     pub fn run_script(self, slots: u64, events: &[Event], replies: &mut [Reply]) -> Open<B, S>
         ensures plays { λ r. ⌜ Plays (S·Suite .scheme (self .suite)) slots (world-in (B·Board .meaning (self .board)) (self .chip)) (take (min (length (now (events .entry))) (length (now (replies .entry)))) (now (events .entry))) (take (min (length (now (events .entry))) (length (now (replies .entry)))) (now (replies .exit))) (world-in (B·Board .meaning (r .board)) (r .chip)) ⌝ }
+        ensures does { λ r. ⌜ Does-all (S·Suite .scheme (self .suite)) slots (B·Board .meaning (self .board)) (self .chip) (take (min (length (now (events .entry))) (length (now (replies .entry)))) (now (events .entry))) (take (min (length (now (events .entry))) (length (now (replies .entry)))) (now (replies .exit))) (B·Board .meaning (r .board)) (r .chip) ⌝ }
         ensures rest { λ _. ⌜ drop (length (now (events .entry))) (now (replies .exit)) ≡ drop (length (now (events .entry))) (now (replies .entry)) ⌝ }
         ensures suite { λ r. ⌜ r .suite ≡ self .suite ⌝ }
     {
