@@ -1,7 +1,7 @@
 -- Scripts: many events in a row on one board, each finding what came before.
 use Prim.Native.Nat.{ℕ}
 use mathlib.Core.Path.{_≡_}
-use mathlib.Core.Bool.{true, false}
+use mathlib.Core.Bool.{Bool, true, false}
 use mathlib.Core.List.{List, [], _∷_, _++_}
 use Rattle.board.specs.Meaning.{Meaning, Power, lesser}
 use Rattle.board.specs.Tampering.{LinePut, Recharged}
