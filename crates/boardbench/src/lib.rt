@@ -24,7 +24,13 @@ fn opened<B: Board, S: Suite + Copy>(board: B, suite: S, levels: u64, slots: u64
 }
 
 // Writes in turn at every eighth address below `span`, and counts those that were done.
-fn writes<B: Board, S: Suite + Copy>(board: B, suite: S, slots: u64, span: u64, turns: u64) -> (B, u64)
+fn writes<B: Board, S: Suite + Copy>(
+    board: B,
+    suite: S,
+    slots: u64,
+    span: u64,
+    turns: u64,
+) -> (B, u64)
     ensures { λ r. ⌜ r .1 ≤ turns ⌝ }
 {
     let mut current = opened(board, suite, 3, slots);
@@ -39,7 +45,13 @@ fn writes<B: Board, S: Suite + Copy>(board: B, suite: S, slots: u64, span: u64, 
 }
 
 // Reads in turn at every eighth address below `span`, each leaf dirty, and counts those that were accepted.
-fn reads<B: Board, S: Suite + Copy>(board: B, suite: S, slots: u64, span: u64, turns: u64) -> (B, u64)
+fn reads<B: Board, S: Suite + Copy>(
+    board: B,
+    suite: S,
+    slots: u64,
+    span: u64,
+    turns: u64,
+) -> (B, u64)
     ensures { λ r. ⌜ r .1 ≤ turns ⌝ }
 {
     let mut current = opened(board, suite, 3, slots);
@@ -58,7 +70,13 @@ fn reads<B: Board, S: Suite + Copy>(board: B, suite: S, slots: u64, span: u64, t
 }
 
 // Makes so many leaves dirty, then shuts the board down and brings it up in each turn, and counts the bring-ups that were accepted.
-fn bring_ups<B: Board, S: Suite + Copy>(board: B, suite: S, levels: u64, dirty: u64, turns: u64) -> (B, u64)
+fn bring_ups<B: Board, S: Suite + Copy>(
+    board: B,
+    suite: S,
+    levels: u64,
+    dirty: u64,
+    turns: u64,
+) -> (B, u64)
     ensures { λ r. ⌜ r .1 ≤ turns ⌝ }
 {
     let mut current = opened(board, suite, levels, 64);
@@ -96,7 +114,12 @@ pub extern "C" fn boardbench_reads(words: &mut [u64], slots: u64, span: u64, tur
 
 // How many of so many bring-ups were accepted.
 #[unsafe(no_mangle)]
-pub extern "C" fn boardbench_bring_ups(words: &mut [u64], levels: u64, dirty: u64, turns: u64) -> u64
+pub extern "C" fn boardbench_bring_ups(
+    words: &mut [u64],
+    levels: u64,
+    dirty: u64,
+    turns: u64,
+) -> u64
     ensures { λ r. ⌜ r ≤ turns ⌝ }
 {
     let (_memory, done) = bring_ups(Memory::new(words), keyed(), levels, dirty, turns);
