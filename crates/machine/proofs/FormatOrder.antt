@@ -75,28 +75,28 @@ module _ (T : Shape) (S : Scheme) where
             λ q i. update-other (after-writes (length (blank-lines T S n)) (blank-lines T S n) b .memory) n _ q (λ f. omega arith) ∙ u q (omega arith),
           )
 
-  abbrev lone : ℕ → List Write
-  lone h = write-register 0 (blank-log (T .lines)) (new-register S h) ∷ []
+  abbrev last-write : ℕ → List Write
+  last-write h = write-register 0 (blank-log (T .lines)) (new-register S h) ∷ []
 
   format-place : (h k : ℕ) → k ≤ T .lines → place-of k (format-writes T S h) ≡ cond (ltb k (T .lines)) k 0
   unfolding format-writes place-of
   format-place h k i = go (cases-lt k (T .lines))
     where
-      go : (k < T .lines) ⊎ (T .lines ≤ k) → place-of k (blank-lines T S (T .lines) ++ lone h) ≡ cond (ltb k (T .lines)) k 0
-      go (inl y) = place-front (blank-lines T S (T .lines)) (lone h) k (omega (arith, blank-length T S (T .lines))) ∙ blank-place (T .lines) k y ∙ sym (ap (λ b. cond b k 0) (lt-ltb k (T .lines) y))
+      go : (k < T .lines) ⊎ (T .lines ≤ k) → place-of k (blank-lines T S (T .lines) ++ last-write h) ≡ cond (ltb k (T .lines)) k 0
+      go (inl y) = place-front (blank-lines T S (T .lines)) (last-write h) k (omega (arith, blank-length T S (T .lines))) ∙ blank-place (T .lines) k y ∙ sym (ap (λ b. cond b k 0) (lt-ltb k (T .lines) y))
       go (inr y) =
           let e : k ≡ length (blank-lines T S (T .lines)) + 0 = omega (arith, blank-length T S (T .lines)) in
-          ap (λ z. place-of z (blank-lines T S (T .lines) ++ lone h)) e ∙ place-back (blank-lines T S (T .lines)) (lone h) 0 ∙ sym (ap (λ b. cond b k 0) (le-ltb k (T .lines) y))
+          ap (λ z. place-of z (blank-lines T S (T .lines) ++ last-write h)) e ∙ place-back (blank-lines T S (T .lines)) (last-write h) 0 ∙ sym (ap (λ b. cond b k 0) (le-ltb k (T .lines) y))
 
   format-cut : (h k : ℕ) (b : BoardState) → k ≤ T .lines → Cut-mem k (b .memory) (after-writes k (format-writes T S h) b .memory)
   unfolding format-writes
-  format-cut h k b i = subst (λ z. Cut-mem k (b .memory) (z .memory)) (sym (after-writes-front (blank-lines T S (T .lines)) (lone h) k b (omega (arith, blank-length T S (T .lines))))) (blank-cut (T .lines) k b i)
+  format-cut h k b i = subst (λ z. Cut-mem k (b .memory) (z .memory)) (sym (after-writes-front (blank-lines T S (T .lines)) (last-write h) k b (omega (arith, blank-length T S (T .lines))))) (blank-cut (T .lines) k b i)
 
   format-over : (h k : ℕ) (b : BoardState) → k ≡ suc (T .lines) → (q : ℕ) → T .lines ≤ q → after-writes k (format-writes T S h) b .memory q ≡ b .memory q
   unfolding format-writes after-writes
   format-over h k b e q i =
       let f : k ≡ length (blank-lines T S (T .lines)) + 1 = omega (arith, blank-length T S (T .lines)) in
-      ap (λ z. after-writes z (blank-lines T S (T .lines) ++ lone h) b .memory q) f ∙ ap (λ z. z .memory q) (after-writes-back (blank-lines T S (T .lines)) (lone h) 1 b)
+      ap (λ z. after-writes z (blank-lines T S (T .lines) ++ last-write h) b .memory q) f ∙ ap (λ z. z .memory q) (after-writes-back (blank-lines T S (T .lines)) (last-write h) 1 b)
       ∙ ap (λ z. after-writes z (blank-lines T S (T .lines)) b .memory q) (blank-length T S (T .lines)) ∙ blank-cut (T .lines) (T .lines) b (omega arith) .1 q i
 
 module _ (shapes : ℕ → Shape) (S : Scheme) (h : ℕ) (w : World) (l : Log) (H : Board-holds shapes S (w .board) l) (O : No-reuse l) (laws : (h : ℕ) → 1 ≤ h → h ≤ 4 → TreeLaws (shapes h)) (x : Answer) (w′ : World) (l′ : Log) (B : Formatted shapes S h (w .board) (format-check shapes h (w .board)) l x w′ l′) where

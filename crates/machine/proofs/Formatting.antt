@@ -177,30 +177,30 @@ module _ (shapes : ℕ → Shape) (S : Scheme) (h : ℕ) (b : BoardState) where
   abbrev ws : List Write
   ws = format-writes T S h
 
-  abbrev lone : List Write
-  lone = write-register 0 (blank-log (T .lines)) (new-register S h) ∷ []
+  abbrev last-write : List Write
+  last-write = write-register 0 (blank-log (T .lines)) (new-register S h) ∷ []
 
   pub format-length : length ws ≡ suc (T .lines)
   unfolding format-writes
-  format-length = omega (arith, length-append (blank-lines T S (T .lines)) lone, blank-length T S (T .lines))
+  format-length = omega (arith, length-append (blank-lines T S (T .lines)) last-write, blank-length T S (T .lines))
 
   -- A format cut short leaves the register and the log.
   pub cut-short : (k : ℕ) → k < length ws → (l : Log) → (after-writes k ws b .register ≡ b .register) × (log-after k ws l ≡ l)
   unfolding format-writes
   cut-short k i l =
-      let j : k ≤ length (blank-lines T S (T .lines)) = omega (arith, i, length-append (blank-lines T S (T .lines)) lone) in (
-        ap (λ z. z .register) (after-writes-front (blank-lines T S (T .lines)) lone k b j) ∙ plain-register (blank-lines T S (T .lines)) (blank-plain T S (T .lines)) k b,
-        log-front (blank-lines T S (T .lines)) lone k l j ∙ plain-log (blank-lines T S (T .lines)) (blank-plain T S (T .lines)) k l,
+      let j : k ≤ length (blank-lines T S (T .lines)) = omega (arith, i, length-append (blank-lines T S (T .lines)) last-write) in (
+        ap (λ z. z .register) (after-writes-front (blank-lines T S (T .lines)) last-write k b j) ∙ plain-register (blank-lines T S (T .lines)) (blank-plain T S (T .lines)) k b,
+        log-front (blank-lines T S (T .lines)) last-write k l j ∙ plain-log (blank-lines T S (T .lines)) (blank-plain T S (T .lines)) k l,
       )
 
   -- A whole one writes both.
   pub all-done : (k : ℕ) → k ≡ length ws → (after-writes k ws b .register ≡ new-register S h) × (log-after k ws [] ≡ blank-log (T .lines)) × ((a : ℕ) → a < T .lines → after-writes k ws b .memory a ≡ line-at T S a 0 (λ i. 0))
   unfolding format-writes after-writes log-after
   all-done k i =
-      let e : k ≡ length (blank-lines T S (T .lines)) + 1 = omega (arith, i, length-append (blank-lines T S (T .lines)) lone) in
-      let p : after-writes k ws b ≡ after-write (after-writes (length (blank-lines T S (T .lines))) (blank-lines T S (T .lines)) b) (write-register 0 (blank-log (T .lines)) (new-register S h)) = ap (λ z. after-writes z ws b) e ∙ after-writes-back (blank-lines T S (T .lines)) lone 1 b in (
+      let e : k ≡ length (blank-lines T S (T .lines)) + 1 = omega (arith, i, length-append (blank-lines T S (T .lines)) last-write) in
+      let p : after-writes k ws b ≡ after-write (after-writes (length (blank-lines T S (T .lines))) (blank-lines T S (T .lines)) b) (write-register 0 (blank-log (T .lines)) (new-register S h)) = ap (λ z. after-writes z ws b) e ∙ after-writes-back (blank-lines T S (T .lines)) last-write 1 b in (
         ap (λ z. z .register) p,
-        ap (λ z. log-after z ws []) e ∙ log-back (blank-lines T S (T .lines)) lone 1 [] ∙ ap (λ z. blank-log (T .lines) ++ z) (plain-log (blank-lines T S (T .lines)) (blank-plain T S (T .lines)) (length (blank-lines T S (T .lines))) []) ∙ append-nil (blank-log (T .lines)),
+        ap (λ z. log-after z ws []) e ∙ log-back (blank-lines T S (T .lines)) last-write 1 [] ∙ ap (λ z. blank-log (T .lines) ++ z) (plain-log (blank-lines T S (T .lines)) (blank-plain T S (T .lines)) (length (blank-lines T S (T .lines))) []) ∙ append-nil (blank-log (T .lines)),
         λ a j. ap (λ z. z .memory a) p ∙ blank-mem T S (T .lines) b a j,
       )
 

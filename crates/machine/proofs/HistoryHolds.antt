@@ -20,7 +20,7 @@ use Rattle.machine.specs.CommitLaws.{Slots-law}
 use Rattle.machine.specs.Promises.{Within, Register-says, Law, Keeps-promises, Tree-layouts}
 use Rattle.machine.proofs.Invariant.{Durable, Fine, Slots-hold}
 use Rattle.machine.proofs.Basics.{update-same, update-other}
-use Rattle.machine.proofs.Trails.{Trail, end, Open-holds, Cold-holds, warm-cool, warm-trail, after-writes-all, after-writes-some, once-some, Same-board, register-kept}
+use Rattle.machine.proofs.Trails.{Trail, end, Open-holds, Cold-holds, open-to-cold, open-after, after-writes-all, after-writes-some, once-some, Same-board, register-kept}
 use Rattle.machine.proofs.Runs.{Goes, Node, Wrote, wrote, flush-goes}
 use Rattle.machine.proofs.Cuts.{cut-le}
 use Rattle.machine.proofs.BoardHolds.{Formatted-board, Board-holds, Holds}
@@ -65,8 +65,8 @@ module _ (shapes : ℕ → Shape) (S : Scheme) where
         shape : (j : ℕ) → shapes (b .register .levels) ≡ shapes (after-writes j (r .planned) b .register .levels)
         shape j = ap shapes (sym (same j .1))
 
-        warm : Open-holds shapes (shape-of shapes b) S (log-after (length (r .planned)) (r .planned) l) (record { memory = after-writes (length (r .planned)) (r .planned) b .memory; register = after-writes (length (r .planned)) (r .planned) b .register; table = r .view .table })
-        warm = let (m, g, e) = after-writes-all shapes (shape-of shapes b) L S tr b refl refl in rw (m, g, e) (warm-trail shapes (shape-of shapes b) L S W tr)
+        still-open : Open-holds shapes (shape-of shapes b) S (log-after (length (r .planned)) (r .planned) l) (record { memory = after-writes (length (r .planned)) (r .planned) b .memory; register = after-writes (length (r .planned)) (r .planned) b .register; table = r .view .table })
+        still-open = let (m, g, e) = after-writes-all shapes (shape-of shapes b) L S tr b refl refl in rw (m, g, e) (open-after shapes (shape-of shapes b) L S W tr)
 
         at : (d : Bool) → ltb k (length (r .planned)) ≡ d → Holds shapes S (cond d (latched (power-lost-at k (r .planned))) (opened cap (r .view .table))) (after b k (r .planned) p) (log-after k (r .planned) l)
         at true e =
@@ -78,7 +78,7 @@ module _ (shapes : ℕ → Shape) (S : Scheme) where
             let i : length (r .planned) ≡ k = omega (arith, ltb-false _ _ e, cut-le (b .power) p (length (r .planned)) k c) in (
               safe-on (b .size) (b .register) (after-writes k (r .planned) b .register) (same k) s,
               subst (λ T. Open-holds shapes T S (log-after k (r .planned) l) (record { memory = after-writes k (r .planned) b .memory; register = after-writes k (r .planned) b .register; table = r .view .table })) (shape k)
-                  (subst (λ j. Open-holds shapes (shape-of shapes b) S (log-after j (r .planned) l) (record { memory = after-writes j (r .planned) b .memory; register = after-writes j (r .planned) b .register; table = r .view .table })) i warm),
+                  (subst (λ j. Open-holds shapes (shape-of shapes b) S (log-after j (r .planned) l) (record { memory = after-writes j (r .planned) b .memory; register = after-writes j (r .planned) b .register; table = r .view .table })) i still-open),
               cl,
               ch,
               subst (λ T. dirty-count T (r .view .table) ≤ cap) (shape k) us,
@@ -141,7 +141,7 @@ module _ (shapes : ℕ → Shape) (S : Scheme) where
     keeps (opened cap t) b l (s, W, cl, ch, us) O flush x w′ l′ f r =
         let L = laws (b .register .levels) (s .low) (s .high) in
         ran cap cl ch t b l s W O (flush-call (shape-of shapes b) S (view-of b t)) (flush-used L cap (view-of b t) us) L (flush-goes shapes (shape-of shapes b) L S l (view-of b t) W .trail) x w′ l′ r
-    keeps (opened cap t) b l (s, W, cl, ch, us) O shut-down x w′ l′ f (ex, ew, el) = rw (ew, el) (inr (s, warm-cool shapes (shape-of shapes b) S W), O)
+    keeps (opened cap t) b l (s, W, cl, ch, us) O shut-down x w′ l′ f (ex, ew, el) = rw (ew, el) (inr (s, open-to-cold shapes (shape-of shapes b) S W), O)
     keeps (opened cap t) b l (s, W, cl, ch, us) O (tamper a y) x w′ l′ f (ex, ew, el) =
         rw (ew, el) ((s, record { durable = W .durable; slots-hold = W .slots-hold; fine = λ q k. tampered-fine (shape-of shapes b) l (b .memory) a y (f (s .formatted)) q k (W .fine q k) }, cl, ch, us), O)
     keeps (latched r) b l H O (format h) x w′ l′ f s = absurd s

@@ -20,14 +20,14 @@ use Rattle.machine.proofs.Invariant.{Durable, Fine, Exact, Raised, Slots-hold}
 use Rattle.machine.proofs.Basics.{update-same, update-other, some-inj, none≢some, first-none, first-some, sum-zero, term-le}
 use Rattle.machine.proofs.TrustedCounter.{rests-higher, counter-true, counter-refused, inner-parent, depth-next, root-parent}
 use Rattle.machine.proofs.CommitKeeps.{Fits}
-use Rattle.machine.proofs.Trails.{Legal, entry, Trail, end, step, join, Open-holds, warm-trail, raise-other, leaf-kept}
+use Rattle.machine.proofs.Trails.{Legal, entry, Trail, end, step, join, Open-holds, open-after, raise-other, leaf-kept}
 
 -- A slot, if any, in which one more raise is allowed.
-abbrev pub Roomy : Option Slot → Type 0
-Roomy (some s) = s .pending < 1023
-Roomy none = Unit {0}
+abbrev pub Can-raise : Option Slot → Type 0
+Can-raise (some s) = s .pending < 1023
+Can-raise none = Unit {0}
 
-pub not-overdue : (T : Shape) (S : Scheme) (o : Option Slot) → overdue o ≡ false → Roomy o
+pub not-overdue : (T : Shape) (S : Scheme) (o : Option Slot) → overdue o ≡ false → Can-raise o
 not-overdue T S (some s) e = leb-false _ _ e
 not-overdue T S none e = tt
 
@@ -68,7 +68,7 @@ module _ (shapes : ℕ → Shape) (T : Shape) (L : TreeLaws T) (S : Scheme) wher
       go none p = let k = h p in record { log = k .log; trail = join (g .trail) (k .trail) }
 
   module _ (l : Log) (v : View) (w : Open-holds shapes T S l v) (t : Table) (a : ℕ) (b : Body) (k : a < T .lines) (own : t a ≡ none) (others : (p : ℕ) → (p ≡ a → ⊥) → t p ≡ v .table p)
-      (full : T .data-lines ≤ a → (i : ℕ) → i < T .arity a → b i ≡ counter-in l (T .child a i)) (roomy : Roomy (v .table (T .parent a))) (bare : T .data-lines ≤ a → (i : ℕ) → T .arity a ≤ i → b i ≡ 0) where
+      (full : T .data-lines ≤ a → (i : ℕ) → i < T .arity a → b i ≡ counter-in l (T .child a i)) (can-raise : Can-raise (v .table (T .parent a))) (bare : T .data-lines ≤ a → (i : ℕ) → T .arity a ≤ i → b i ≡ 0) where
     abbrev pub Commits : Run → Type 0
     Commits r = ((x : Fault) × (r ≡ stop v x) × Reason l v a x) ⊎ ((r ≡ commit-under T S (v .memory) (v .register) t a b (suc (counter-in l a))) × Legal T S l v t a (suc (counter-in l a)) b)
 
@@ -90,9 +90,9 @@ module _ (shapes : ℕ → Shape) (T : Shape) (L : TreeLaws T) (S : Scheme) wher
             tr = counter-true shapes T L S l v D (T .depth (T .parent a)) a c k refl (λ q _ _. w .slots-hold .exact q) (λ q _. w .fine q) e
 
             fits : T .parent a < T .lines → Fits T S l (v .memory) (T .parent a) (v .table (T .parent a))
-            fits h = at (v .table (T .parent a)) (w .slots-hold .exact (T .parent a)) roomy
+            fits h = at (v .table (T .parent a)) (w .slots-hold .exact (T .parent a)) can-raise
               where
-                at : (o : Option Slot) → Exact T l (v .register .dirty) o (T .parent a) → Roomy o → Fits T S l (v .memory) (T .parent a) o
+                at : (o : Option Slot) → Exact T l (v .register .dirty) o (T .parent a) → Can-raise o → Fits T S l (v .memory) (T .parent a) o
                 at (some s) x r = r
                 at none x r = ⊎-elim (λ e. absurd (omega (arith, e, L .parent-above a k))) (λ s. s) (tr .1 (T .parent a) (above itself h x))
 
@@ -146,7 +146,7 @@ module _ (shapes : ℕ → Shape) (T : Shape) (L : TreeLaws T) (S : Scheme) wher
   abbrev pub Puts : Log → View → ℕ → Run → Type 0
   Puts l v A r = Goes Node l v r × (r .ends ≡ none → (q : ℕ) → q ≤ A → r .view .table q ≡ update (v .table) A none q)
 
-  now-puts : (l : Log) (v : View) → Open-holds shapes T S l v → (A : ℕ) → is-dirty (v .table A) ≡ true → Roomy (v .table (T .parent A)) → Puts l v A (evict-now T S v A)
+  now-puts : (l : Log) (v : View) → Open-holds shapes T S l v → (A : ℕ) → is-dirty (v .table A) ≡ true → Can-raise (v .table (T .parent A)) → Puts l v A (evict-now T S v A)
   unfolding evict-now
   now-puts l v w A h r =
       let (n, k) = held-inner l v w A h in
@@ -160,14 +160,14 @@ module _ (shapes : ℕ → Shape) (T : Shape) (L : TreeLaws T) (S : Scheme) wher
 
   pub evict-puts : (r : ℕ) (l : Log) (v : View) → Open-holds shapes T S l v → (A : ℕ) → is-dirty (v .table A) ≡ true → T .depth (T .parent A) ≡ r → Puts l v A (evict-at T S v r A)
   unfolding evict-at
-  evict-puts zero l v w A h e = now-puts l v w A h (roomy (v .table (T .parent A)) refl)
+  evict-puts zero l v w A h e = now-puts l v w A h (can-raise (v .table (T .parent A)) refl)
     where
       k : A < T .lines
       k = held-inner l v w A h .1
 
-      roomy : (o : Option Slot) → v .table (T .parent A) ≡ o → Roomy o
-      roomy (some s) f = absurd (omega (arith, root-parent T L A k e, held-inner l v w (T .parent A) (ap is-dirty f) .1))
-      roomy none f = tt
+      can-raise : (o : Option Slot) → v .table (T .parent A) ≡ o → Can-raise o
+      can-raise (some s) f = absurd (omega (arith, root-parent T L A k e, held-inner l v w (T .parent A) (ap is-dirty f) .1))
+      can-raise none f = tt
   evict-puts (suc r) l v w A h e = go (overdue (v .table (T .parent A))) refl (λ f. evict-puts r l v w (T .parent A) f (depth-next T L A r (inner-parent T L A r k e) e))
     where
       k : A < T .lines
@@ -185,8 +185,8 @@ module _ (shapes : ℕ → Shape) (T : Shape) (L : TreeLaws T) (S : Scheme) wher
 
           second : evict-at T S v r (T .parent A) .ends ≡ none → Puts (g .log) u A (evict-now T S u A)
           second n =
-              now-puts (g .log) u (warm-trail shapes T L S w (g .trail)) A (ap is-dirty (low A n (omega arith)) ∙ h)
-              (subst Roomy (sym (s n (T .parent A) (omega arith) ∙ update-same (v .table) (T .parent A) none (T .parent A) refl)) tt)
+              now-puts (g .log) u (open-after shapes T L S w (g .trail)) A (ap is-dirty (low A n (omega arith)) ∙ h)
+              (subst Can-raise (sym (s n (T .parent A) (omega arith) ∙ update-same (v .table) (T .parent A) none (T .parent A) refl)) tt)
 
           done : and-then (evict-at T S v r (T .parent A)) (λ u. evict-now T S u A) .ends ≡ none → (q : ℕ) → q ≤ A → and-then (evict-at T S v r (T .parent A)) (λ u. evict-now T S u A) .view .table q ≡ update (v .table) A none q
           done n q i =
@@ -220,7 +220,7 @@ module _ (shapes : ℕ → Shape) (T : Shape) (L : TreeLaws T) (S : Scheme) wher
 
       go : (b : Bool) → ((l₁ : Log) (u : View) → Open-holds shapes T S l₁ u → Goes Node l₁ u (evict-until T S m f u)) → Goes Node l v (cond b (stay v) (and-then r (evict-until T S m f)))
       go true ih = goes-stay l v
-      go false ih = goes-then l v r (evict-until T S m f) g (λ _. ih (g .log) (r .view) (warm-trail shapes T L S w (g .trail)))
+      go false ih = goes-then l v r (evict-until T S m f) g (λ _. ih (g .log) (r .view) (open-after shapes T L S w (g .trail)))
 
   -- Done, it leaves at most m nodes dirty, if the turns suffice.
   pub until-ends : (m f : ℕ) (l : Log) (v : View) → Open-holds shapes T S l v → ((q : ℕ) → q + f < T .lines → is-dirty (v .table q) ≡ false) → evict-until T S m f v .ends ≡ none → dirty-count T (evict-until T S m f v .view .table) ≤ m
@@ -258,14 +258,14 @@ module _ (shapes : ℕ → Shape) (T : Shape) (L : TreeLaws T) (S : Scheme) wher
       go true e n ih = leb-true _ _ e
       go false e n ih =
           let (n₁, n₂, x) = then-none r (evict-until T S m f) n in
-          subst (λ y. dirty-count T (y .table) ≤ m) (sym x) (ih (g .log) (r .view) (warm-trail shapes T L S w (g .trail)) (clear (lowest T (v .table)) refl n₁) n₂)
+          subst (λ y. dirty-count T (y .table) ≤ m) (sym x) (ih (g .log) (r .view) (open-after shapes T L S w (g .trail)) (clear (lowest T (v .table)) refl n₁) n₂)
 
   abbrev P : ℕ → ℕ
   P a = T .parent a
 
   -- A run of node commits that leaves room for one more raise at node p.
   abbrev pub Clears : Log → View → ℕ → Run → Type 0
-  Clears l v p r = Goes Node l v r × (r .ends ≡ none → Roomy (r .view .table p))
+  Clears l v p r = Goes Node l v r × (r .ends ≡ none → Can-raise (r .view .table p))
 
   overdue-clears : (l : Log) (v : View) → Open-holds shapes T S l v → (p : ℕ) → Clears l v p (evict-overdue T S v p)
   unfolding evict
@@ -274,14 +274,14 @@ module _ (shapes : ℕ → Shape) (T : Shape) (L : TreeLaws T) (S : Scheme) wher
       go : (b : Bool) → overdue (v .table p) ≡ b → Clears l v p (cond b (evict T S v p) (stay v))
       go true e =
           let (g, s) = evict-puts (T .depth (T .parent p)) l v w p (overdue-held T S (v .table p) e) refl in
-          (g, λ n. subst Roomy (sym (s n p (omega arith) ∙ update-same (v .table) p none p refl)) tt)
+          (g, λ n. subst Can-raise (sym (s n p (omega arith) ∙ update-same (v .table) p none p refl)) tt)
       go false e = (goes-stay l v, λ n. not-overdue T S (v .table p) e)
 
-  room-clears : (cap : ℕ) (l : Log) (v : View) → Open-holds shapes T S l v → (d : ℕ) → d < T .data-lines → (o : Option Slot) → v .table (T .parent d) ≡ o → Roomy o → Clears l v (T .parent d) (make-room T S cap (T .parent d) v o)
-  room-clears cap l v w d h (some s) e y = (goes-stay l v, λ n. subst Roomy (sym e) y)
+  room-clears : (cap : ℕ) (l : Log) (v : View) → Open-holds shapes T S l v → (d : ℕ) → d < T .data-lines → (o : Option Slot) → v .table (T .parent d) ≡ o → Can-raise o → Clears l v (T .parent d) (make-room T S cap (T .parent d) v o)
+  room-clears cap l v w d h (some s) e y = (goes-stay l v, λ n. subst Can-raise (sym e) y)
   room-clears cap l v w d h none e y =
       let g = until-goes (cap - 1) (T .lines) l v w in
-      (g, λ n. ⊎-elim (λ f. subst Roomy (sym (f ∙ e)) tt) (λ f. subst Roomy (sym f) tt) (leaf-kept L (g .trail) d h))
+      (g, λ n. ⊎-elim (λ f. subst Can-raise (sym (f ∙ e)) tt) (λ f. subst Can-raise (sym f) tt) (leaf-kept L (g .trail) d h))
 
   pub room-freed : (cap : ℕ) (l : Log) (v : View) → Open-holds shapes T S l v → (d : ℕ) → d < T .data-lines → Clears l v (T .parent d) (and-then (evict-overdue T S v (T .parent d)) (λ u. make-room T S cap (T .parent d) u (u .table (T .parent d))))
   room-freed cap l v w d h = at (overdue-clears l v w (T .parent d))
@@ -295,11 +295,11 @@ module _ (shapes : ℕ → Shape) (T : Shape) (L : TreeLaws T) (S : Scheme) wher
       at : Clears l v (T .parent d) r → Clears l v (T .parent d) (and-then r f)
       at (g, y) = (
         goes-then l v r f g (λ n. second n .0),
-        λ n. let (n₁, n₂, x) = then-none r f n in subst (λ z. Roomy (z .table (T .parent d))) (sym x) (second n₁ .1 n₂),
+        λ n. let (n₁, n₂, x) = then-none r f n in subst (λ z. Can-raise (z .table (T .parent d))) (sym x) (second n₁ .1 n₂),
       )
         where
           second : r .ends ≡ none → Clears (g .log) (r .view) (T .parent d) (f (r .view))
-          second n = room-clears cap (g .log) (r .view) (warm-trail shapes T L S w (g .trail)) d h (r .view .table (T .parent d)) refl (y n)
+          second n = room-clears cap (g .log) (r .view) (open-after shapes T L S w (g .trail)) d h (r .view .table (T .parent d)) refl (y n)
 
   -- What a write comes to: refused in format room or at its own commit, after commits of nodes alone; or those and its own commit.
   pub data Wrote (l : Log) (v : View) (a : ℕ) (b : Body) : Run → Type 0 where
@@ -321,7 +321,7 @@ module _ (shapes : ℕ → Shape) (T : Shape) (L : TreeLaws T) (S : Scheme) wher
       last n = at (commit-goes (g .log) (r .view) w₁ (r .view .table) a b k (data-slot (g .log) (r .view) w₁ a h) (λ p _. refl) (λ z. absurd (omega arith)) (y n) (λ z. absurd (omega arith)))
         where
           w₁ : Open-holds shapes T S (g .log) (r .view)
-          w₁ = warm-trail shapes T L S w (g .trail)
+          w₁ = open-after shapes T L S w (g .trail)
 
           k : a < T .lines
           k = omega (arith, L .data-in)
@@ -346,7 +346,7 @@ module _ (shapes : ℕ → Shape) (T : Shape) (L : TreeLaws T) (S : Scheme) wher
       k : a < T .lines
       k = omega (arith, L .data-in)
 
-      root-room : T .depth (T .parent a) ≡ 0 → (o : Option Slot) → v .table (T .parent a) ≡ o → Roomy o
+      root-room : T .depth (T .parent a) ≡ 0 → (o : Option Slot) → v .table (T .parent a) ≡ o → Can-raise o
       root-room e (some s) f = absurd (omega (arith, root-parent T L a k e, held-inner l v w (T .parent a) (ap is-dirty f) .1))
       root-room e none f = tt
 

@@ -22,7 +22,7 @@ use Rattle.machine.proofs.Invariant.{Durable, Slots-hold, Exact}
 use Rattle.machine.proofs.Basics.{update-same, some-inj, none≢some}
 use Rattle.machine.proofs.Lines.{tag-low}
 use Rattle.machine.proofs.CommitKeeps.{counter-new, body-new}
-use Rattle.machine.proofs.Trails.{Legal, entry, Trail, end, step, join, widen, Open-holds, Cold-holds, warm-trail, after-writes-all, after-writes-some, kept-some}
+use Rattle.machine.proofs.Trails.{Legal, entry, Trail, end, step, join, widen, Open-holds, Cold-holds, open-after, after-writes-all, after-writes-some, kept-some}
 use Rattle.machine.proofs.Runs.{Goes, Node, Wrote, short, whole, wrote, flush-goes, flush-ends}
 use Rattle.machine.proofs.Cuts.{after-writes-front, log-front, after-writes-back, log-back, cut-le, cut-lost, answer-done, answer-refused, refused-inj, done≢refused}
 
@@ -180,7 +180,7 @@ module _ (shapes : ℕ → Shape) (S : Scheme) (w : World) (L : TreeLaws (shape-
       rests : k ≡ length (r .planned) → r .ends ≡ none → (q : ℕ) → q < T .lines → after-writes k (r .planned) (w .board) .register .dirty q ≡ false
       rests i e q j =
           let (_, m, _) = after-writes-all shapes T L S (g .trail) (w .board) refl refl in
-          let u = warm-trail shapes T L S W (g .trail) in
+          let u = open-after shapes T L S W (g .trail) in
           ap (λ z. after-writes z (r .planned) (w .board) .register .dirty q) i ∙ ap (λ z. z .dirty q) m ∙ at (r .view .table q) (u .slots-hold .exact q) (flush-ends shapes T L S l v W e q j)
         where
           at : (o : Option Slot) → Exact T (g .log) (r .view .register .dirty) o q → is-dirty o ≡ false → r .view .register .dirty q ≡ false
