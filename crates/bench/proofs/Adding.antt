@@ -11,7 +11,6 @@ use Rattle.text.specs.Spelling.{Reads, lines-of, FirstLine}
 use Rattle.script.specs.Script.{StepLine, row-text}
 use Rattle.script.specs.declared.types.Step.{Step}
 use Rattle.script.specs.declared.types.Row.{Row}
-use Rattle.controller.specs.Worlds.{world-in}
 use Rattle.controller.specs.declared.chip.Chip.{Chip}
 use Rattle.controller.specs.declared.event.Event.{Event}
 use Rattle.controller.specs.declared.event.Reply.{Reply}
@@ -44,7 +43,7 @@ module _ (S : Scheme) (cap : ℕ) (t : List ℕ) (m₀ : Meaning) (c₀ : Chip) 
       )
 
       -- one step more
-      rows-by : (s : Step) (r : Reply) (m′ : Meaning) (c′ : Chip) (p : List ℕ) → StepLine l s → Played S cap (world-in m c) (event-of k s) r (world-in m′ c′) → p ≡ o ++ (row-text (row-of i r (m′ .register)) ++ (10 ∷ [])) → So-far b (i + 1) m′ c′ (copy-after m k s) before p
+      rows-by : (s : Step) (r : Reply) (m′ : Meaning) (c′ : Chip) (p : List ℕ) → StepLine l s → Played S cap m c (event-of k s) r m′ c′ → p ≡ o ++ (row-text (row-of i r (m′ .register)) ++ (10 ∷ [])) → So-far b (i + 1) m′ c′ (copy-after m k s) before p
       rows-by s r m′ c′ p reads plays e =
           let row = row-text (row-of i r (m′ .register)) ++ (10 ∷ []) in (
             h .0 ++ row,
@@ -53,10 +52,10 @@ module _ (S : Scheme) (cap : ℕ) (t : List ℕ) (m₀ : Meaning) (c₀ : Chip) 
           )
 
       -- the same by what the calls of the code answer
-      pub rows-more : (s : Step) (e : Option Event) (r : Reply) (m′ : Meaning) (c′ : Chip) (k′ : Option Line) (g : List ℕ) (row : Row) (p : List ℕ) → StepLine l s → k′ ≡ copy-after m k s → e ≡ event-of k s → Played S cap (world-in m c) e r (world-in m′ c′) → g ≡ m′ .register → row ≡ row-of i r g → p ≡ o ++ (row-text row ++ (10 ∷ [])) → So-far b (i + 1) m′ c′ k′ before p
+      pub rows-more : (s : Step) (e : Option Event) (r : Reply) (m′ : Meaning) (c′ : Chip) (k′ : Option Line) (g : List ℕ) (row : Row) (p : List ℕ) → StepLine l s → k′ ≡ copy-after m k s → e ≡ event-of k s → Played S cap m c e r m′ c′ → g ≡ m′ .register → row ≡ row-of i r g → p ≡ o ++ (row-text row ++ (10 ∷ [])) → So-far b (i + 1) m′ c′ k′ before p
       rows-more s e r m′ c′ k′ g row p reads kept asked plays reg is put =
           subst (λ (x : Option Line). So-far b (i + 1) m′ c′ x before p) (sym kept)
-          (rows-by s r m′ c′ p reads (subst (λ (x : Option Event). Played S cap (world-in m c) x r (world-in m′ c′)) asked plays)
+          (rows-by s r m′ c′ p reads (subst (λ (x : Option Event). Played S cap m c x r m′ c′) asked plays)
           (put ∙ ap (λ (x : Row). o ++ (row-text x ++ (10 ∷ []))) (is ∙ ap (row-of i r) reg)))
 
 -- what is added behind what was added

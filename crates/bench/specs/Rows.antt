@@ -38,10 +38,14 @@ result-of (Err f) = number (fault-of f .cause)
 abbrev pub lines-needed : ℕ → ℕ
 lines-needed h = cond (leb 1 h && leb h 4) (lines-of h) 0
 
+-- The head of the table, with the result of format and the number of lines above it.
+abbrev pub made-text : ℕ → ℕ → List ℕ
+made-text r n =
+    codes "made=" ++ (decimal r ++ (codes " lines=" ++ (decimal n ++ (10 ∷ (codes "step result layer at value commits ahead total" ++ (10 ∷ []))))))
+
 -- What is printed of format at h levels, and the head of the table.
 abbrev pub head-text : Result (Unit {0}) Fault → ℕ → List ℕ
-head-text r h =
-    codes "made=" ++ (decimal (result-of r) ++ (codes " lines=" ++ (decimal (lines-needed h) ++ (10 ∷ (codes "step result layer at value commits ahead total" ++ (10 ∷ []))))))
+head-text r h = made-text (result-of r) (lines-needed h)
 
 -- What is printed at an unreadable line, by its number.
 abbrev pub bad : ℕ → List ℕ

@@ -4,7 +4,9 @@ ghost use Rattle.std.specs.Of.String.{string-bytes};
 ghost use Rattle.std.specs.Vec.{made};
 ghost use Rattle.std.specs.declared.option.Option.the-variants.{None};
 ghost use Rattle.text.specs.Spelling.{lines-of};
-ghost use Rattle.controller.specs.Worlds.{world-in};
+ghost use Rattle.machine.specs.History.{format as formatting, bring-up as bringing-up};
+ghost use Rattle.controller.specs.Worlds.{cold-in, world-in, report-by, Formats, Keeps};
+ghost use Rattle.controller.specs.BringUps.{Brings-up};
 ghost use Rattle.bench.specs.Printed.{Played, Rows, Table, Run, Adds};
 use crate::events::copy_after;
 use crate::events::event_of;
@@ -33,7 +35,7 @@ fn play<B: Tamper + Recharge, S: Suite + Copy>(
     slots: u64,
     event: Option<Event>,
 ) -> (Open<B, S>, Reply)
-    ensures plays { λ r. ⌜ Played (S·Suite .scheme (opened .suite)) slots (world-in (B·Board .meaning (opened .board)) (opened .chip)) event (r .1) (world-in (B·Board .meaning (r .0 .board)) (r .0 .chip)) ⌝ }
+    ensures plays { λ r. ⌜ Played (S·Suite .scheme (opened .suite)) slots (B·Board .meaning (opened .board)) (opened .chip) event (r .1) (B·Board .meaning (r .0 .board)) (r .0 .chip) ⌝ }
     ensures suite { λ r. ⌜ r .0 .suite ≡ opened .suite ⌝ }
 {
     match event {
@@ -73,6 +75,23 @@ fn play_steps<B: Tamper + Recharge, S: Suite + Copy>(
     (open, Ok(()))
 }
 
+// Formats the board as the header says.
+fn format<B: Board, S: Suite>(cold: &mut Cold<B>, suite: &S, header: &Header) -> Result<(), Fault>
+    ensures does { λ r. ⌜ Formats (S·Suite .scheme (now (suite .entry))) (now (header .entry) .levels) (B·Board .meaning (now (cold .entry) .board)) (report-by r 0) (B·Board .meaning (now (cold .exit) .board)) ⌝ }
+    ensures law { λ r. ⌜ Keeps (S·Suite .scheme (now (suite .entry))) (cold-in (B·Board .meaning (now (cold .entry) .board))) (formatting (now (header .entry) .levels)) (report-by r 0) (cold-in (B·Board .meaning (now (cold .exit) .board))) ⌝ }
+{
+    cold.format(suite, header.levels)
+}
+
+// Brings the board up as the header says.
+fn bring_up<B: Board, S: Suite>(cold: Cold<B>, suite: S, header: &Header) -> (Open<B, S>, Result<(), Fault>)
+    ensures does { λ r. ⌜ Brings-up (S·Suite .scheme suite) (now (header .entry) .slots) (B·Board .meaning (cold .board)) (report-by (r .1) 0) (B·Board .meaning (r .0 .board)) (world-in (B·Board .meaning (r .0 .board)) (r .0 .chip)) ⌝ }
+    ensures law { λ r. ⌜ Keeps (S·Suite .scheme suite) (cold-in (B·Board .meaning (cold .board))) (bringing-up (now (header .entry) .slots) (S·Suite .scheme suite .number)) (report-by (r .1) 0) (world-in (B·Board .meaning (r .0 .board)) (r .0 .chip)) ⌝ }
+    ensures suite { λ r. ⌜ r .0 .suite ≡ suite ⌝ }
+{
+    cold.bring_up(suite, header.slots)
+}
+
 // Adds the head of the table by what format answered, and the rows of the steps of a text.
 fn print_table<B: Tamper + Recharge, S: Suite + Copy>(
     opened: Open<B, S>,
@@ -100,8 +119,8 @@ pub fn play_script<B: Tamper + Recharge, S: Suite + Copy>(
     ensures { λ r. ⌜ made (r .1) (λ _. Adds (Run (S·Suite .scheme suite) (now (header .entry)) (lines-of (now (text .entry))) (B·Board .meaning board)) (string-bytes (now (out .entry))) (string-bytes (now (out .exit)))) ⌝ }
 {
     let mut cold = Cold::new(board);
-    let outcome = cold.format(&suite, header.levels);
-    let (open, _) = cold.bring_up(suite, header.slots);
+    let outcome = format(&mut cold, &suite, header);
+    let (open, _) = bring_up(cold, suite, header);
     let (open, printed) = print_table(open, outcome, header, text, out);
     (open.shut_down().into_board(), printed)
 }

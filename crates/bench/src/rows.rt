@@ -3,7 +3,7 @@ ghost use mathlib.Core.Path.{_≡_};
 ghost use mathlib.Core.List.{_++_};
 ghost use Rattle.std.specs.Of.String.{string-bytes};
 ghost use Rattle.std.specs.Vec.{made};
-ghost use Rattle.bench.specs.Rows.{row-of, result-of, lines-needed, head-text, bad};
+ghost use Rattle.bench.specs.Rows.{row-of, result-of, lines-needed, made-text, head-text, bad};
 use controller::event::Reply;
 use controller::types::Fault;
 use script::types::Row;
@@ -60,16 +60,22 @@ fn lines_needed(levels: u64) -> u64
     }
 }
 
-// Adds what is printed of format, and the head of the table.
-pub fn print_head(outcome: Result<(), Fault>, levels: u64, out: &mut String) -> fmt::Result
-    ensures { λ r. ⌜ made r (λ _. string-bytes (now (out .exit)) ≡ string-bytes (now (out .entry)) ++ head-text outcome levels) ⌝ }
+// Adds the head of the table, with these numbers above it.
+fn print_made(result: u64, lines: u64, out: &mut String) -> fmt::Result
+    ensures { λ r. ⌜ made r (λ _. string-bytes (now (out .exit)) ≡ string-bytes (now (out .entry)) ++ made-text result lines) ⌝ }
 {
-    let result = result_of(outcome);
-    let lines = lines_needed(levels);
     writeln!(
         out,
         "made={result} lines={lines}\nstep result layer at value commits ahead total"
     )
+}
+
+// Adds what is printed of format, and the head of the table.
+pub fn print_head(outcome: Result<(), Fault>, levels: u64, out: &mut String) -> fmt::Result
+    ensures { λ r. ⌜ made r (λ _. string-bytes (now (out .exit)) ≡ string-bytes (now (out .entry)) ++ head-text outcome levels) ⌝ }
+{
+    print_made(result_of(outcome), lines_needed(levels), out)?;
+    Ok(())
 }
 
 // Adds what is printed at an unreadable line.

@@ -27,7 +27,7 @@ use suite::suite::Suite;
 const SUITES: [u64; 2] = [1, 2];
 
 // The words of 584 lines.
-const WORDS: usize = 5256;
+const WORDS: usize = 9 * 584;
 
 // Runs a script on memory of these words, under the fuse of its header.
 fn play_on_memory<S: Suite + Copy>(

@@ -5,7 +5,6 @@ use lib.ListN.{length}
 use Rattle.std.specs.Of.String.{string-bytes}
 use Rattle.std.proofs.shelf.Results.{made-weaker}
 use Rattle.text.proofs.Cuts.{line-shorter}
-use Rattle.controller.specs.Worlds.{world-in}
 use Rattle.bench.specs.Steps.{copy-after}
 use Rattle.bench.specs.Printed.{Played}
 use Rattle.bench.proofs.Adding.{rows-none, rows-bad, rows-more, rows-end}
@@ -28,7 +27,7 @@ loop-line-again g c =
     let meaning = g .B·Board .meaning in
     let scheme = g .S·Suite .scheme in
     let shorter : length (c .in-Some .behind .now) < length (c .loop-line .rest .now) = line-shorter _ _ _ (c .in-Some .ensures tt) in
-    let plays = subst (λ y. Played (scheme y) (c .args .slots) (world-in (meaning (c .loop-line .open .board)) (c .loop-line .open .chip)) (c .event-of .result) (c .play-next .result .1) (world-in (meaning (c .play-next .result .0 .board)) (c .play-next .result .0 .chip))) (c .loop-line .inv .0) (c .play-next .ensures .plays) in (
+    let plays = subst (λ y. Played (scheme y) (c .args .slots) (meaning (c .loop-line .open .board)) (c .loop-line .open .chip) (c .event-of .result) (c .play-next .result .1) (meaning (c .play-next .result .0 .board)) (c .play-next .result .0 .chip)) (c .loop-line .inv .0) (c .play-next .ensures .plays) in (
       c .play-next .ensures .suite ∙ c .loop-line .inv .0,
       rows-more (scheme (c .args .opened .suite)) (c .args .slots) (c .args .text .now) (meaning (c .args .opened .board)) (c .args .opened .chip) (c .loop-line .rest .now) (c .loop-line .number) (meaning (c .loop-line .open .board)) (c .loop-line .open .chip) (c .loop-line .copy) (string-bytes (c .args .out .now)) (string-bytes (c .loop-line .out)) (c .loop-line .inv .1) _ _ (c .in-Some .ensures tt) (c .in-Some-read-step .step) (c .event-of .result) (c .play-next .result .1) (meaning (c .play-next .result .0 .board)) (c .play-next .result .0 .chip) (c .copy-after-kept .result) (c .read-register .result) (c .row-of-row .result) _ (c .in-Some-read-step .ensures tt)
           (c .copy-after-kept .ensures ∙ ap (λ y. copy-after (meaning y) (c .loop-line .copy) (c .in-Some-read-step .step)) (c .board .ensures)) (c .event-of .ensures) plays
