@@ -27,7 +27,7 @@ use Rattle.controller.proofs.CounterSteps.{counter-node}
 -- A fault before any write.
 pub went-none : (m : Meaning) (t : Table) (x : Fault) (n : ℕ) → (x .cause ≡ power-lost → ⊥) → Went (stop (view-in m t) x) m (some x) m t n n
 unfolding after-writes commits-in
-went-none m t x n h = record { done = 0; cut = still (m .power); left-is = refl; says = refl; whole = λ _. refl; counted = omega arith; lost = λ y e c. absurd (h (ap (λ (z : Fault). z .cause) (some-inj e) ∙ c)) }
+went-none m t x n h = record { done = 0; cut = still (m .power); left-is = refl; says = refl; whole = λ _. refl; counted = omega arith; still = λ _. refl; lost = λ y e c. absurd (h (ap (λ (z : Fault). z .cause) (some-inj e) ∙ c)) }
   where
     still : (p : Power) → Cut p 0 0 p
     still endless = refl

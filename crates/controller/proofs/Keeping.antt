@@ -96,7 +96,7 @@ module _ (S : Scheme) (m : Meaning) (c : Chip) where
       kept (Some f) (ex, em, ew) = keeps S (world-by m (Some f) (c .capacity) (table-in (c .slots))) (write a b) x (world-in m′ c′) (λ l R. (l, tt, (ex, ew, refl)))
       kept None D =
           keeps S (world-by m None (c .capacity) (table-in (c .slots))) (write a b) x (world-in m′ c′)
-          (λ l R. let q = subst (λ (o : Option Why). Runs-as None o m (c .capacity) (table-in (c .slots)) (write-plan S m c a b) x m′ (world-in m′ c′)) (check-passes l R) D l in (q .0, tt, q .1))
+          (λ l R. let q = subst (λ (o : Option Why). Runs-as None o m (c .capacity) (table-in (c .slots)) (write-plan S m c a b) x m′ (world-in m′ c′)) (check-passes l R) D .0 l in (q .0, tt, q .1))
 
   -- A flush.
   pub flush-kept : (x : Answer) (m′ : Meaning) (c′ : Chip) → Does (flush-plan S m c) m c x m′ c′ → Keeps S (world-in m c) flush x (world-in m′ c′)
@@ -107,7 +107,7 @@ module _ (S : Scheme) (m : Meaning) (c : Chip) where
       kept (Some f) (ex, em, ew) = keeps S (world-by m (Some f) (c .capacity) (table-in (c .slots))) flush x (world-in m′ c′) (λ l R. (l, tt, (ex, ew, refl)))
       kept None D =
           keeps S (world-by m None (c .capacity) (table-in (c .slots))) flush x (world-in m′ c′)
-          (λ l R. let q = subst (λ (o : Option Why). Runs-as None o m (c .capacity) (table-in (c .slots)) (flush-plan S m c) x m′ (world-in m′ c′)) (check-passes l R) D l in (q .0, tt, q .1))
+          (λ l R. let q = subst (λ (o : Option Why). Runs-as None o m (c .capacity) (table-in (c .slots)) (flush-plan S m c) x m′ (world-in m′ c′)) (check-passes l R) D .0 l in (q .0, tt, q .1))
 
   -- A call under a latched fault, whatever the suite and the plan.
   pub write-latched : (r : Run) (a : ℕ) (b : Body) (x : Answer) (m′ : Meaning) (c′ : Chip) → Does r m c x m′ c′ → Keeps-latched (c .latched) (world-in m c) (write a b) x (world-in m′ c′)

@@ -88,6 +88,7 @@ module _ (m : Meaning) (a : ℕ) (es : Log) (ws : List ℕ) (R : Register) (l : 
         says = refl;
         whole = λ e. absurd (omega arith);
         counted = omega arith;
+        still = λ _. ap (λ (x : Meaning). x .register) (r .1);
         lost = λ x f g. omega arith;
       }
 
@@ -101,6 +102,7 @@ module _ (m : Meaning) (a : ℕ) (es : Log) (ws : List ℕ) (R : Register) (l : 
         says = refl;
         whole = λ e. absurd (omega arith);
         counted = omega arith;
+        still = λ e. absurd (omega arith);
         lost = λ x f g. omega arith;
       }
 
@@ -117,5 +119,6 @@ module _ (m : Meaning) (a : ℕ) (es : Log) (ws : List ℕ) (R : Register) (l : 
         says = refl;
         whole = λ e i. record { memory = memory i; register = register i; table = t };
         counted = refl;
+        still = λ e. absurd (omega arith);
         lost = λ x f g. absurd (none≢some f);
       }

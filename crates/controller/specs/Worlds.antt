@@ -19,7 +19,7 @@ use Rattle.machine.specs.Words.{row, state-in}
 use Rattle.machine.specs.Faults.{fault, too-few-lines, invalid-register}
 use Rattle.machine.specs.Faults.{Fault as Why}
 use Rattle.machine.specs.Plans.{Table, Run, read-call, write-call, flush-call}
-use Rattle.machine.specs.History.{cold, opened, latched, World, Event, Answer, body-is, done, refused, read-answer, format-check, Ran, Formatted, Step, Reached}
+use Rattle.machine.specs.History.{cold, opened, latched, World, Event, Answer, nothing, body-is, done, refused, read-answer, format-check, Ran, Formatted, Step, Reached}
 use Rattle.machine.specs.History.{Chip as ChipState}
 use Rattle.machine.specs.Promises.{Law, Promises}
 use Rattle.tree.specs.SlotTable.{table-in}
@@ -111,11 +111,18 @@ abbrev pub Layout-found : Meaning → ℕ → ℕ → Result Layout Fault → Ty
 Layout-found m lv n (Ok l) = (call-check m lv n ≡ none) × Fits (l .levels) m × (0 < n → l .levels ≡ lv)
 Layout-found m lv n (Err f) = call-check m lv n ≡ some (fault-of f)
 
--- A call on board m planned as run r: the latched fault, one before its steps, or what the run does while power lasts.
+-- The commits that an answer reports.
+abbrev pub commits-of : Answer → ℕ
+commits-of nothing = 0
+commits-of (body-is b) = 0
+commits-of (done n) = n
+commits-of (refused r n) = n
+
+-- A call on board m planned as run r: the latched fault, one before its steps, or what the run does while power lasts. Without a commit the register keeps its words.
 abbrev pub Runs-as : Maybe Fault → Option Why → Meaning → ℕ → Table → Run → Answer → Meaning → World → Type 0
 Runs-as (Some f) o m n t r x m′ w′ = (x ≡ refused (fault-of f) 0) × (m′ ≡ m) × (w′ ≡ world-by m (Some f) n t)
 Runs-as None (some y) m n t r x m′ w′ = (x ≡ refused y 0) × (m′ ≡ m) × (w′ ≡ world-by m None n t)
-Runs-as None none m n t r x m′ w′ = (l : Log) → (l′ : Log) × Ran n r (state-in m) l x w′ l′
+Runs-as None none m n t r x m′ w′ = ((l : Log) → (l′ : Log) × Ran n r (state-in m) l x w′ l′) × (commits-of x ≡ 0 → m′ .register ≡ m .register)
 
 -- What a call planned as run r does on any board and chip, in a history or not.
 abbrev pub Does : Run → Meaning → Chip → Answer → Meaning → Chip → Type 0
