@@ -1,15 +1,24 @@
 ghost use mathlib.Core.Path.{_≡_};
 ghost use mathlib.Core.Option.{some};
+ghost use Prim.Native.Nat.{_+_, _*_, _%_, _^_, _<_};
 ghost use Rattle.suite.specs.Scheme.{tag-of, right, mix, sealed, data-line, node-line};
 ghost use Rattle.suite.specs.Words.{row, line-in, open-data, open-node, Answers};
 use crate::suite::Suite;
 use board::types::Line;
 
+// A mac, then the ten low bits of a counter.
+fn tag_word(mac: u64, counter: u64) -> u64
+    requires { ⌜ mac < 2 ^ 54 ⌝ }
+    ensures { λ r. ⌜ r ≡ mac * 1024 + counter % 1024 ⌝ }
+{
+    mac * 1024 + counter % 1024
+}
+
 // The tag of words at an address under a counter: the mac, then the ten low bits of the counter.
 pub fn tag<S: Suite>(suite: &S, at: u64, words: &[u64; 8], counter: u64) -> u64
     ensures { λ r. ⌜ r ≡ tag-of (S·Suite .scheme (now (suite .entry))) at (row (now (words .entry))) counter ⌝ }
 {
-    suite.mac(at, words, counter) * 1024 + counter % 1024
+    tag_word(suite.mac(at, words, counter), counter)
 }
 
 // The tag that a line's stored words want at an address under a counter.
