@@ -10,7 +10,7 @@ use lib.ListN.{getD, length, set}
 use Rattle.std.proofs.shelf.Lists.{getD-map, map-set, length-map, getD-set-same, getD-set-other}
 use Rattle.std.proofs.shelf.Counted.{fill-by-all, getD-map-counting}
 use Rattle.aes.specs.Field.{times}
-use Rattle.aes.specs.Aes.{after, round, last-round, xor-blocks, aes128, rcon, round-key, round-keys, next-key}
+use Rattle.aes.specs.Aes.{after, round, xor-blocks, rcon, round-key, round-keys, next-key}
 use Rattle.aes.specs.Columns.{unpack}
 use Rattle.aes.specs.declared.columns.Columns.{Columns}
 
@@ -20,7 +20,7 @@ rcon-more i = rw add-one refl
 
 pub round-key-more : (key : List ℕ) (i : ℕ) → round-key key (i + 1) ≡ next-key (rcon i) (round-key key i)
 unfolding round-key
-round-key-more key i = rw add-one refl
+round-key-more key i = ap (round-key key) (add-one i)
 
 -- One round key more.
 pub keys-more : (key : List ℕ) (ks : List Columns) (i : ℕ) (x : Columns) → i < length ks → unpack x ≡ round-key key (i + 1) → ((j : ℕ) → j < i → getD (map unpack ks) j [] ≡ round-key key (j + 1)) → (j : ℕ) → j < i + 1 → getD (map unpack (set ks i x)) j [] ≡ round-key key (j + 1)
@@ -37,7 +37,7 @@ unfolding round-keys
 keys-all key ks i len n inv = fill-by-all (λ j. round-key key (j + 1)) (map unpack ks) 10 [] (simp length-map len) (λ j h. inv j (omega arith))
 
 -- Round key i + 1, where the expanded key has it.
-key-at : (key : List ℕ) (ks : List Columns) (i : ℕ) (d : Columns) → length ks ≡ 10 → map unpack ks ≡ round-keys key → i < 10 → unpack (getD ks i d) ≡ round-key key (i + 1)
+pub key-at : (key : List ℕ) (ks : List Columns) (i : ℕ) (d : Columns) → length ks ≡ 10 → map unpack ks ≡ round-keys key → i < 10 → unpack (getD ks i d) ≡ round-key key (i + 1)
 unfolding round-keys
 key-at key ks i d len e h =
     sym (getD-map unpack ks i d [] (omega arith)) ∙ ap (λ (xs : List (List ℕ)). getD xs i []) e ∙ getD-map-counting (λ j. round-key key (j + 1)) 0 10 i i [] h (omega arith)
@@ -48,17 +48,8 @@ unfolding after round-key
 after-none key block b k s e f g = cc
 
 -- One round more.
-pub after-more : (key block : List ℕ) (ks : List Columns) (i : ℕ) (d s t : Columns) → length ks ≡ 10 → map unpack ks ≡ round-keys key → i < 10 → unpack s ≡ after key block i → unpack t ≡ round (unpack s) (unpack (getD ks i d)) → unpack t ≡ after key block (i + 1)
+pub after-more : (key block : List ℕ) (i : ℕ) (s k t : Columns) → unpack s ≡ after key block i → unpack k ≡ round-key key (i + 1) → unpack t ≡ round (unpack s) (unpack k) → unpack t ≡ after key block (i + 1)
 unfolding after
-after-more key block ks i d s t len x h e r =
-    let k = key-at key ks i d len x h in
-    let one = add-one i in
+after-more key block i s k t e f r =
     let step : after key block (i + 1) ≡ round (after key block i) (round-key key (i + 1)) = rw add-one refl in
-    cc
-
--- All rounds.
-pub ciphered : (key block : List ℕ) (ks : List Columns) (i : ℕ) (d s t : Columns) (out : List ℕ) → length ks ≡ 10 → map unpack ks ≡ round-keys key → i ≡ 9 → unpack s ≡ after key block i → unpack t ≡ last-round (unpack s) (unpack (getD ks 9 d)) → out ≡ unpack t → out ≡ aes128 key block
-unfolding aes128
-ciphered key block ks i d s t out len x n e r o =
-    let k : unpack (getD ks 9 d) ≡ round-key key 10 = key-at key ks 9 d len x (omega arith) in
     cc

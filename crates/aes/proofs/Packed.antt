@@ -8,7 +8,7 @@ use lib.ListN.{getD, length}
 use Rattle.std.proofs.shelf.Counted.{fill-by-all}
 use Rattle.aes.specs.Field.{sbox, times}
 use Rattle.aes.specs.Aes.{mixed, round, last-round, xor-blocks, mix-columns, shift-rows, sub-bytes}
-use Rattle.aes.specs.Columns.{word4, bytes4, unpack, spread, spread-of, mixed-word, sub-word}
+use Rattle.aes.specs.Columns.{word4, bytes4, unpack, spread, spread-of, mixed-word, sub-word, rows-of, mixed-columns, sub-columns}
 use Rattle.aes.specs.declared.columns.Columns.{Columns}
 use Rattle.aes.proofs.Products.{sbox-lt, two-lt, three-lt}
 
@@ -72,35 +72,35 @@ mixed-from-table p q r s hp hq hr hs =
 pub bytes-xor : (w k : ℕ) → bytes4 (bitXor w k) ≡ bitXor (w / 16777216 % 256) (k / 16777216 % 256) ∷ bitXor (w / 65536 % 256) (k / 65536 % 256) ∷ bitXor (w / 256 % 256) (k / 256 % 256) ∷ bitXor (w % 256) (k % 256) ∷ []
 bytes-xor w k = rw (xor-shr w k 24, xor-shr w k 16, xor-shr w k 8, xor-mod (w / 16777216) (k / 16777216) 8, xor-mod (w / 65536) (k / 65536) 8, xor-mod (w / 256) (k / 256) 8, xor-mod w k 8) refl
 
--- the bytes of a word of four bytes, with a key's word added
-pub bytes-word-xor : (a b c d k : ℕ) → a < 256 → b < 256 → c < 256 → d < 256 → bytes4 (bitXor (word4 a b c d) k) ≡ bitXor a (k / 16777216 % 256) ∷ bitXor b (k / 65536 % 256) ∷ bitXor c (k / 256 % 256) ∷ bitXor d (k % 256) ∷ []
-bytes-word-xor a b c d k ha hb hc hd =
+-- the bytes of a word of four bytes
+word-bytes : (a b c d : ℕ) → a < 256 → b < 256 → c < 256 → d < 256 → bytes4 (word4 a b c d) ≡ a ∷ b ∷ c ∷ d ∷ []
+word-bytes a b c d ha hb hc hd =
     let e0 : word4 a b c d / 16777216 % 256 ≡ a = omega arith in
     let e1 : word4 a b c d / 65536 % 256 ≡ b = omega arith in
     let e2 : word4 a b c d / 256 % 256 ≡ c = omega arith in
     let e3 : word4 a b c d % 256 ≡ d = omega arith in
-    bytes-xor (word4 a b c d) k ∙ cc
+    cc
 
 mixed-lt : (p q r s : ℕ) → p < 256 → q < 256 → r < 256 → s < 256 → mixed (sbox p) (sbox q) (sbox r) (sbox s) < 256
 unfolding mixed
 mixed-lt p q r s hp hq hr hs =
     xor-lt 8 (bitXor (times (sbox p) 2) (times (sbox q) 3)) (bitXor (sbox r) (sbox s)) (xor-lt 8 _ _ (two-lt (sbox p) (sbox-lt p hp)) (three-lt (sbox q) (sbox-lt q hq))) (xor-lt 8 _ _ (sbox-lt r hr) (sbox-lt s hs))
 
-abbrev MixedIs : ℕ → ℕ → ℕ → ℕ → ℕ → Type 0
-MixedIs p q r s k = bytes4 (bitXor (mixed-word p q r s) k) ≡ bitXor (mixed (sbox p) (sbox q) (sbox r) (sbox s)) (k / 16777216 % 256) ∷ bitXor (mixed (sbox q) (sbox r) (sbox s) (sbox p)) (k / 65536 % 256) ∷ bitXor (mixed (sbox r) (sbox s) (sbox p) (sbox q)) (k / 256 % 256) ∷ bitXor (mixed (sbox s) (sbox p) (sbox q) (sbox r)) (k % 256) ∷ []
+abbrev MixedIs : ℕ → ℕ → ℕ → ℕ → Type 0
+MixedIs p q r s = bytes4 (mixed-word p q r s) ≡ mixed (sbox p) (sbox q) (sbox r) (sbox s) ∷ mixed (sbox q) (sbox r) (sbox s) (sbox p) ∷ mixed (sbox r) (sbox s) (sbox p) (sbox q) ∷ mixed (sbox s) (sbox p) (sbox q) (sbox r) ∷ []
 
-mixed-word-bytes : (p q r s k : ℕ) → p < 256 → q < 256 → r < 256 → s < 256 → MixedIs p q r s k
+mixed-bytes : (p q r s : ℕ) → p < 256 → q < 256 → r < 256 → s < 256 → MixedIs p q r s
 unfolding mixed-word
-mixed-word-bytes p q r s k hp hq hr hs =
-    bytes-word-xor (mixed (sbox p) (sbox q) (sbox r) (sbox s)) (mixed (sbox q) (sbox r) (sbox s) (sbox p)) (mixed (sbox r) (sbox s) (sbox p) (sbox q)) (mixed (sbox s) (sbox p) (sbox q) (sbox r)) k
+mixed-bytes p q r s hp hq hr hs =
+    word-bytes (mixed (sbox p) (sbox q) (sbox r) (sbox s)) (mixed (sbox q) (sbox r) (sbox s) (sbox p)) (mixed (sbox r) (sbox s) (sbox p) (sbox q)) (mixed (sbox s) (sbox p) (sbox q) (sbox r))
     (mixed-lt p q r s hp hq hr hs) (mixed-lt q r s p hq hr hs hp) (mixed-lt r s p q hr hs hp hq) (mixed-lt s p q r hs hp hq hr)
 
-abbrev SubIs : ℕ → ℕ → ℕ → ℕ → ℕ → Type 0
-SubIs p q r s k = bytes4 (bitXor (sub-word p q r s) k) ≡ bitXor (sbox p) (k / 16777216 % 256) ∷ bitXor (sbox q) (k / 65536 % 256) ∷ bitXor (sbox r) (k / 256 % 256) ∷ bitXor (sbox s) (k % 256) ∷ []
+abbrev SubIs : ℕ → ℕ → ℕ → ℕ → Type 0
+SubIs p q r s = bytes4 (sub-word p q r s) ≡ sbox p ∷ sbox q ∷ sbox r ∷ sbox s ∷ []
 
-sub-word-bytes : (p q r s k : ℕ) → p < 256 → q < 256 → r < 256 → s < 256 → SubIs p q r s k
+subbed-bytes : (p q r s : ℕ) → p < 256 → q < 256 → r < 256 → s < 256 → SubIs p q r s
 unfolding sub-word
-sub-word-bytes p q r s k hp hq hr hs = bytes-word-xor (sbox p) (sbox q) (sbox r) (sbox s) k (sbox-lt p hp) (sbox-lt q hq) (sbox-lt r hr) (sbox-lt s hs)
+subbed-bytes p q r s hp hq hr hs = word-bytes (sbox p) (sbox q) (sbox r) (sbox s) (sbox-lt p hp) (sbox-lt q hq) (sbox-lt r hr) (sbox-lt s hs)
 
 join4 : {a b c d a' b' c' d' : List ℕ} → a ≡ a' → b ≡ b' → c ≡ c' → d ≡ d' → a ++ b ++ c ++ d ≡ a' ++ b' ++ c' ++ d'
 join4 p q r s = cc
@@ -110,44 +110,40 @@ pub unpack-xor : (s k : Columns) → unpack (record { c0 = bitXor (s .c0) (k .c0
 unfolding unpack xor-blocks
 unpack-xor s k = join4 (bytes-xor (s .c0) (k .c0)) (bytes-xor (s .c1) (k .c1)) (bytes-xor (s .c2) (k .c2)) (bytes-xor (s .c3) (k .c3))
 
--- the word that a function on four bytes gives for a column and the three to its right
-abbrev pub from4 : (ℕ → ℕ → ℕ → ℕ → ℕ) → ℕ → ℕ → ℕ → ℕ → ℕ
-from4 f a b c d = f (a / 16777216 % 256) (b / 65536 % 256) (c / 256 % 256) (d % 256)
-
-abbrev pub Lt4 : ℕ → ℕ → ℕ → ℕ → Type 0
+abbrev Lt4 : ℕ → ℕ → ℕ → ℕ → Type 0
 Lt4 a b c d = (a / 16777216 % 256 < 256) × (b / 65536 % 256 < 256) × (c / 256 % 256 < 256) × (d % 256 < 256)
 
 lt4 : (a b c d : ℕ) → Lt4 a b c d
 lt4 a b c d = (omega arith, omega arith, omega arith, omega arith)
 
-mixed-at : (a b c d k : ℕ) → MixedIs (a / 16777216 % 256) (b / 65536 % 256) (c / 256 % 256) (d % 256) k
-mixed-at a b c d k = let h = lt4 a b c d in mixed-word-bytes (a / 16777216 % 256) (b / 65536 % 256) (c / 256 % 256) (d % 256) k (h .0) (h .1) (h .2) (h .3)
+mixed-at : (a b c d : ℕ) → MixedIs (a / 16777216 % 256) (b / 65536 % 256) (c / 256 % 256) (d % 256)
+mixed-at a b c d = let h = lt4 a b c d in mixed-bytes (a / 16777216 % 256) (b / 65536 % 256) (c / 256 % 256) (d % 256) (h .0) (h .1) (h .2) (h .3)
 
-sub-at : (a b c d k : ℕ) → SubIs (a / 16777216 % 256) (b / 65536 % 256) (c / 256 % 256) (d % 256) k
-sub-at a b c d k = let h = lt4 a b c d in sub-word-bytes (a / 16777216 % 256) (b / 65536 % 256) (c / 256 % 256) (d % 256) k (h .0) (h .1) (h .2) (h .3)
+sub-at : (a b c d : ℕ) → SubIs (a / 16777216 % 256) (b / 65536 % 256) (c / 256 % 256) (d % 256)
+sub-at a b c d = let h = lt4 a b c d in subbed-bytes (a / 16777216 % 256) (b / 65536 % 256) (c / 256 % 256) (d % 256) (h .0) (h .1) (h .2) (h .3)
 
--- the state that a function on four bytes gives, with a key added
-abbrev pub rows : (ℕ → ℕ → ℕ → ℕ → ℕ) → Columns → Columns → Columns
-rows f s k = record {
-  c0 = bitXor (from4 f (s .c0) (s .c1) (s .c2) (s .c3)) (k .c0);
-  c1 = bitXor (from4 f (s .c1) (s .c2) (s .c3) (s .c0)) (k .c1);
-  c2 = bitXor (from4 f (s .c2) (s .c3) (s .c0) (s .c1)) (k .c2);
-  c3 = bitXor (from4 f (s .c3) (s .c0) (s .c1) (s .c2)) (k .c3);
-}
+-- the columns of a round are the bytes of its steps
+mixed-state : (s : Columns) → unpack (mixed-columns s) ≡ mix-columns (shift-rows (sub-bytes (unpack s)))
+unfolding unpack mix-columns shift-rows sub-bytes
+mixed-state s =
+    join4 (mixed-at (s .c0) (s .c1) (s .c2) (s .c3)) (mixed-at (s .c1) (s .c2) (s .c3) (s .c0))
+    (mixed-at (s .c2) (s .c3) (s .c0) (s .c1)) (mixed-at (s .c3) (s .c0) (s .c1) (s .c2))
 
-pub round-bytes : (s k : Columns) → unpack (rows mixed-word s k) ≡ round (unpack s) (unpack k)
-unfolding unpack round xor-blocks mix-columns shift-rows sub-bytes
-round-bytes s k =
-    join4 (mixed-at (s .c0) (s .c1) (s .c2) (s .c3) (k .c0)) (mixed-at (s .c1) (s .c2) (s .c3) (s .c0) (k .c1))
-    (mixed-at (s .c2) (s .c3) (s .c0) (s .c1) (k .c2)) (mixed-at (s .c3) (s .c0) (s .c1) (s .c2) (k .c3))
+sub-state : (s : Columns) → unpack (sub-columns s) ≡ shift-rows (sub-bytes (unpack s))
+unfolding unpack shift-rows sub-bytes
+sub-state s =
+    join4 (sub-at (s .c0) (s .c1) (s .c2) (s .c3)) (sub-at (s .c1) (s .c2) (s .c3) (s .c0))
+    (sub-at (s .c2) (s .c3) (s .c0) (s .c1)) (sub-at (s .c3) (s .c0) (s .c1) (s .c2))
 
-pub last-bytes : (s k : Columns) → unpack (rows sub-word s k) ≡ last-round (unpack s) (unpack k)
-unfolding unpack last-round xor-blocks shift-rows sub-bytes
-last-bytes s k =
-    join4 (sub-at (s .c0) (s .c1) (s .c2) (s .c3) (k .c0)) (sub-at (s .c1) (s .c2) (s .c3) (s .c0) (k .c1))
-    (sub-at (s .c2) (s .c3) (s .c0) (s .c1) (k .c2)) (sub-at (s .c3) (s .c0) (s .c1) (s .c2) (k .c3))
+pub round-bytes : (s k m t : Columns) → m ≡ mixed-columns s → unpack t ≡ xor-blocks (unpack m) (unpack k) → unpack t ≡ round (unpack s) (unpack k)
+unfolding round
+round-bytes s k m t e f = f ∙ ap (λ (x : List ℕ). xor-blocks x (unpack k)) (ap unpack e ∙ mixed-state s)
 
--- What the functions of `columns` compute, from what their calls ensure.
+pub last-bytes : (s k m t : Columns) → m ≡ sub-columns s → unpack t ≡ xor-blocks (unpack m) (unpack k) → unpack t ≡ last-round (unpack s) (unpack k)
+unfolding last-round
+last-bytes s k m t e f = f ∙ ap (λ (x : List ℕ). xor-blocks x (unpack k)) (ap unpack e ∙ sub-state s)
+
+-- What the functions on columns compute, from what their calls ensure.
 
 pub spread-at : (xs : List ℕ) (i w x : ℕ) → xs ≡ bytes4 w → x ≡ spread (getD xs i 0) → x ≡ spread (getD (bytes4 w) i 0)
 spread-at xs i w x e h = cc
@@ -155,17 +151,14 @@ spread-at xs i w x e h = cc
 pub sbox-at : (xs : List ℕ) (i w x : ℕ) → xs ≡ bytes4 w → x ≡ sbox (getD xs i 0) → x ≡ sbox (getD (bytes4 w) i 0)
 sbox-at xs i w x e h = cc
 
-pub from-table : (a b c d x0 x1 x2 x3 y1 y2 y3 : ℕ) → x0 ≡ spread (a / 16777216 % 256) → x1 ≡ spread (b / 65536 % 256) → x2 ≡ spread (c / 256 % 256) → x3 ≡ spread (d % 256) → y1 ≡ ror x1 256 16777216 → y2 ≡ ror x2 65536 65536 → y3 ≡ ror x3 16777216 256 → bitXor (bitXor x0 y1) (bitXor y2 y3) ≡ from4 mixed-word a b c d
+pub from-table : (a b c d x0 x1 x2 x3 y1 y2 y3 : ℕ) → x0 ≡ spread (a / 16777216 % 256) → x1 ≡ spread (b / 65536 % 256) → x2 ≡ spread (c / 256 % 256) → x3 ≡ spread (d % 256) → y1 ≡ ror x1 256 16777216 → y2 ≡ ror x2 65536 65536 → y3 ≡ ror x3 16777216 256 → bitXor (bitXor x0 y1) (bitXor y2 y3) ≡ rows-of mixed-word a b c d
 from-table a b c d x0 x1 x2 x3 y1 y2 y3 e0 e1 e2 e3 r1 r2 r3 =
     let h = lt4 a b c d in
     cc (mixed-from-table (a / 16777216 % 256) (b / 65536 % 256) (c / 256 % 256) (d % 256) (h .0) (h .1) (h .2) (h .3))
 
-pub from-sbox : (a b c d x0 x1 x2 x3 w : ℕ) → x0 ≡ sbox (a / 16777216 % 256) → x1 ≡ sbox (b / 65536 % 256) → x2 ≡ sbox (c / 256 % 256) → x3 ≡ sbox (d % 256) → w ≡ x0 * 16777216 + x1 * 65536 + x2 * 256 + x3 → w ≡ from4 sub-word a b c d
+pub from-sbox : (a b c d x0 x1 x2 x3 w : ℕ) → x0 ≡ sbox (a / 16777216 % 256) → x1 ≡ sbox (b / 65536 % 256) → x2 ≡ sbox (c / 256 % 256) → x3 ≡ sbox (d % 256) → w ≡ x0 * 16777216 + x1 * 65536 + x2 * 256 + x3 → w ≡ rows-of sub-word a b c d
 unfolding sub-word
 from-sbox a b c d x0 x1 x2 x3 w e0 e1 e2 e3 e = omega arith
-
-pub with-words : (f : ℕ → ℕ → ℕ → ℕ → ℕ) (s k : Columns) (m0 m1 m2 m3 : ℕ) → m0 ≡ from4 f (s .c0) (s .c1) (s .c2) (s .c3) → m1 ≡ from4 f (s .c1) (s .c2) (s .c3) (s .c0) → m2 ≡ from4 f (s .c2) (s .c3) (s .c0) (s .c1) → m3 ≡ from4 f (s .c3) (s .c0) (s .c1) (s .c2) → unpack (record { c0 = bitXor m0 (k .c0); c1 = bitXor m1 (k .c1); c2 = bitXor m2 (k .c2); c3 = bitXor m3 (k .c3) }) ≡ unpack (rows f s k)
-with-words f s k m0 m1 m2 m3 e0 e1 e2 e3 = cc
 
 be-bytes : (w x0 x1 x2 x3 : ℕ) → w ≡ x0 * 16777216 + x1 * 65536 + x2 * 256 + x3 → x0 < 256 → x1 < 256 → x2 < 256 → x3 < 256 → bytes4 w ≡ x0 ∷ x1 ∷ x2 ∷ x3 ∷ []
 be-bytes w x0 x1 x2 x3 e h0 h1 h2 h3 =

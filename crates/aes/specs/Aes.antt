@@ -40,17 +40,17 @@ rcon zero = 1
 rcon (suc i) = times (rcon i) 2
 
 -- Byte j of what a round key's first word is changed by: its last word turned by a byte, through the S-box, the constant added to byte 0.
-unfoldable pub key-core : ℕ → List ℕ → ℕ → ℕ
+abbrev pub key-core : ℕ → List ℕ → ℕ → ℕ
 key-core constant k zero = bitXor (sbox (getD k 13 0)) constant
 key-core constant k (suc j) = sbox (getD k (12 + (suc j + 1) % 4) 0)
 
 -- Byte j of word w of the next round key: that of this key, changed by the core in word 0, and by the new word before it in the others.
-unfoldable pub next-byte : ℕ → List ℕ → ℕ → ℕ → ℕ
+abbrev pub next-byte : ℕ → List ℕ → ℕ → ℕ → ℕ
 next-byte constant k zero j = bitXor (getD k j 0) (key-core constant k j)
 next-byte constant k (suc w) j = bitXor (getD k (4 * suc w + j) 0) (next-byte constant k w j)
 
 -- The next round key.
-unfoldable pub next-key : ℕ → List ℕ → List ℕ
+abbrev pub next-key : ℕ → List ℕ → List ℕ
 next-key constant k = sixteen (λ i. next-byte constant k (i / 4) (i % 4))
 
 -- Round key i of a key.
@@ -76,5 +76,5 @@ after key block zero = xor-blocks block (round-key key 0)
 after key block (suc i) = round (after key block i) (round-key key (suc i))
 
 -- A block encrypted under a key of 16 bytes.
-unfoldable pub aes128 : List ℕ → List ℕ → List ℕ
+abbrev pub aes128 : List ℕ → List ℕ → List ℕ
 aes128 key block = last-round (after key block 9) (round-key key 10)

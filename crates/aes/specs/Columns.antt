@@ -41,3 +41,24 @@ mixed-word p q r s =
 -- The column that the bytes p, q, r and s become, through the S-box alone.
 unfoldable pub sub-word : ℕ → ℕ → ℕ → ℕ → ℕ
 sub-word p q r s = word4 (sbox p) (sbox q) (sbox r) (sbox s)
+
+-- A function of four bytes at row 0 of column a, row 1 of column b, row 2 of column c and row 3 of column d.
+abbrev pub rows-of : (ℕ → ℕ → ℕ → ℕ → ℕ) → ℕ → ℕ → ℕ → ℕ → ℕ
+rows-of f a b c d = f (a / 16777216 % 256) (b / 65536 % 256) (c / 256 % 256) (d % 256)
+
+-- The state of a function of four bytes, with the rows shifted.
+abbrev pub shifted-by : (ℕ → ℕ → ℕ → ℕ → ℕ) → Columns → Columns
+shifted-by f s = record {
+  c0 = rows-of f (s .c0) (s .c1) (s .c2) (s .c3);
+  c1 = rows-of f (s .c1) (s .c2) (s .c3) (s .c0);
+  c2 = rows-of f (s .c2) (s .c3) (s .c0) (s .c1);
+  c3 = rows-of f (s .c3) (s .c0) (s .c1) (s .c2);
+}
+
+-- The columns through the S-box, shifted and mixed.
+abbrev pub mixed-columns : Columns → Columns
+mixed-columns s = shifted-by mixed-word s
+
+-- The columns through the S-box and shifted.
+abbrev pub sub-columns : Columns → Columns
+sub-columns s = shifted-by sub-word s

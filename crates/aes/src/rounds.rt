@@ -3,13 +3,12 @@ use crate::columns::Columns;
 use crate::field::spread;
 use crate::field::sub_byte;
 ghost use mathlib.Core.Path.{_≡_};
-ghost use Prim.Native.Nat.{_/_, _%_};
 ghost use Rattle.aes.specs.Aes.{round, last-round, xor-blocks};
-ghost use Rattle.aes.specs.Columns.{unpack, mixed-word, sub-word};
+ghost use Rattle.aes.specs.Columns.{unpack, mixed-word, sub-word, rows-of, mixed-columns, sub-columns};
 
 // The first bytes of four columns in turn, through the S-box and mixed.
 fn mixed_word(a: u32, b: u32, c: u32, d: u32) -> u32
-    ensures { λ r. ⌜ r ≡ mixed-word (a / 16777216 % 256) (b / 65536 % 256) (c / 256 % 256) (d % 256) ⌝ }
+    ensures { λ r. ⌜ r ≡ rows-of mixed-word a b c d ⌝ }
 {
     (spread(a.to_be_bytes()[0]) ^ spread(b.to_be_bytes()[1]).rotate_right(8))
         ^ (spread(c.to_be_bytes()[2]).rotate_right(16)
@@ -18,7 +17,7 @@ fn mixed_word(a: u32, b: u32, c: u32, d: u32) -> u32
 
 // The same bytes through the S-box, not mixed.
 fn sub_word(a: u32, b: u32, c: u32, d: u32) -> u32
-    ensures { λ r. ⌜ r ≡ sub-word (a / 16777216 % 256) (b / 65536 % 256) (c / 256 % 256) (d % 256) ⌝ }
+    ensures { λ r. ⌜ r ≡ rows-of sub-word a b c d ⌝ }
 {
     u32::from_be_bytes([
         sub_byte(a.to_be_bytes()[0]),
@@ -78,25 +77,38 @@ impl Columns {
         }
     }
 
+    // ShiftRows puts row r of a column into the column r places to the left: each new column takes its rows from four columns.
+    fn mixed_columns(self) -> Columns
+        ensures { λ r. ⌜ r ≡ mixed-columns self ⌝ }
+    {
+        Columns {
+            c0: mixed_word(self.c0, self.c1, self.c2, self.c3),
+            c1: mixed_word(self.c1, self.c2, self.c3, self.c0),
+            c2: mixed_word(self.c2, self.c3, self.c0, self.c1),
+            c3: mixed_word(self.c3, self.c0, self.c1, self.c2),
+        }
+    }
+
+    fn sub_columns(self) -> Columns
+        ensures { λ r. ⌜ r ≡ sub-columns self ⌝ }
+    {
+        Columns {
+            c0: sub_word(self.c0, self.c1, self.c2, self.c3),
+            c1: sub_word(self.c1, self.c2, self.c3, self.c0),
+            c2: sub_word(self.c2, self.c3, self.c0, self.c1),
+            c3: sub_word(self.c3, self.c0, self.c1, self.c2),
+        }
+    }
+
     pub(crate) fn round(self, k: Columns) -> Columns
         ensures { λ r. ⌜ unpack r ≡ round (unpack self) (unpack k) ⌝ }
     {
-        Columns {
-            c0: mixed_word(self.c0, self.c1, self.c2, self.c3) ^ k.c0,
-            c1: mixed_word(self.c1, self.c2, self.c3, self.c0) ^ k.c1,
-            c2: mixed_word(self.c2, self.c3, self.c0, self.c1) ^ k.c2,
-            c3: mixed_word(self.c3, self.c0, self.c1, self.c2) ^ k.c3,
-        }
+        self.mixed_columns().xor(k)
     }
 
     pub(crate) fn last_round(self, k: Columns) -> Columns
         ensures { λ r. ⌜ unpack r ≡ last-round (unpack self) (unpack k) ⌝ }
     {
-        Columns {
-            c0: sub_word(self.c0, self.c1, self.c2, self.c3) ^ k.c0,
-            c1: sub_word(self.c1, self.c2, self.c3, self.c0) ^ k.c1,
-            c2: sub_word(self.c2, self.c3, self.c0, self.c1) ^ k.c2,
-            c3: sub_word(self.c3, self.c0, self.c1, self.c2) ^ k.c3,
-        }
+        self.sub_columns().xor(k)
     }
 }

@@ -1,10 +1,14 @@
 // The key expansion.
+use crate::columns::Columns;
+use crate::field::double;
 use crate::field::sub_byte;
 ghost use mathlib.Core.Path.{_≡_};
-ghost use Rattle.aes.specs.Aes.{next-key};
+ghost use mathlib.Core.List.{map};
+ghost use Rattle.aes.specs.Aes.{next-key, round-keys};
+ghost use Rattle.aes.specs.Columns.{unpack};
 
 // The round key after k, with its round constant.
-pub(crate) fn next_key(k: &[u8; 16], constant: u8) -> [u8; 16]
+fn next_key(k: &[u8; 16], constant: u8) -> [u8; 16]
     ensures { λ r. ⌜ r ≡ next-key constant (now (k .entry)) ⌝ }
 {
     let a0 = k[0] ^ (sub_byte(k[13]) ^ constant);
@@ -31,4 +35,20 @@ pub(crate) fn next_key(k: &[u8; 16], constant: u8) -> [u8; 16]
         k[14] ^ c2,
         k[15] ^ c3,
     ]
+}
+
+// Round keys 1 to 10.
+pub(crate) fn expand(key: &[u8; 16]) -> [Columns; 10]
+    ensures { λ r. ⌜ map unpack r ≡ round-keys (now (key .entry)) ⌝ }
+{
+    let mut last = *key;
+    let mut constant = 1;
+    let mut rounds = [Columns::load(key); 10];
+    for i in 0..10 {
+        let next = next_key(&last, constant);
+        rounds[i] = Columns::load(&next);
+        last = next;
+        constant = double(constant);
+    }
+    rounds
 }

@@ -21,13 +21,17 @@ wordsOf l = l .body ++ l .tag ∷ []
 abbrev pub lineAt : List ℕ → ℕ → Line
 lineAt ws a = lineOf (between (9 * a) (9 * a + 9) ws)
 
--- As many lines as the words have whole; power has no end.
-abbrev pub memory : List ℕ → List ℕ → Meaning
-memory ws reg = record { lines = map (lineAt ws) (counting 0 (length ws / 9)); register = reg; power = endless }
+-- As many lines as the words have whole.
+abbrev pub linesOf : List ℕ → List Line
+linesOf ws = map (lineAt ws) (counting 0 (length ws / 9))
 
--- The words with a line put at address a: the nine words there are the line's, all others stay.
+-- A memory board by its words and its register; power has no end.
+abbrev pub memory : List ℕ → List ℕ → Meaning
+memory ws reg = record { lines = linesOf ws; register = reg; power = endless }
+
+-- The words with a line put at address a: the nine words there are the line's, all before and after them stay.
 abbrev pub withLine : List ℕ → ℕ → Line → List ℕ
-withLine ws a l = take (9 * a) ws ++ (wordsOf l ++ drop (9 * a + 9) ws)
+withLine ws a l = take (9 * a) ws ++ (wordsOf l ++ drop 9 (drop (9 * a) ws))
 
 -- The words after a line was put at address a, or was not since the words have no such line.
 abbrev pub WordsPut : List ℕ → ℕ → Line → Bool → List ℕ → Type 0

@@ -1,9 +1,9 @@
 -- What a fuse and a window make of the board below.
-use Prim.Native.Nat.{ℕ, _+_, _-_}
+use Prim.Native.Nat.{ℕ, _+_, _-_, _<_}
 use mathlib.Core.Path.{_≡_}
 use mathlib.Core.Bool.{Bool, true, false}
 use mathlib.Core.List.{List}
-use lib.ListN.{take, drop}
+use lib.ListN.{length, getD, set, take, drop}
 use Rattle.board.specs.Meaning.{Meaning, lesser}
 use Rattle.board.specs.Calls.{LineWritten, RegisterWritten}
 use Rattle.board.specs.Tampering.{LinePut}
@@ -37,6 +37,14 @@ RegisterFused m left ws (Err _) m′ left′ = (m′ ≡ m) × (left′ ≡ left
 -- A board in a window: the lines from `start` on, `len` of them as far as they exist.
 abbrev pub windowed : Meaning → ℕ → ℕ → Meaning
 windowed m start len = record { lines = take len (drop start (m .lines)); register = m .register; power = m .power }
+
+-- A window on lines xs shows line k of them at its address a: reading and replacing it there is reading and replacing line k.
+pub record Shows (xs : List Line) (start len a k : ℕ) : Type 0 where
+  pub place : k ≡ start + a
+  pub within : a < length (take len (drop start xs))
+  pub there : k < length xs
+  pub reads : (d : Line) → getD (take len (drop start xs)) a d ≡ getD xs k d
+  pub puts : (l : Line) → take len (drop start (set xs k l)) ≡ set (take len (drop start xs)) a l
 
 -- What a write of line a through a window does to the board below: a done write is done below at `start + a`, a refused
 -- one leaves all. So the lines outside the window stay.

@@ -1,6 +1,5 @@
 ghost use mathlib.Core.Path.{_≡_};
 ghost use mathlib.Core.Bool.{true};
-ghost use lib.Dec.{T};
 ghost use Rattle.board.specs.Piles.{fused, lowered, LineFused, RegisterFused};
 ghost use Rattle.board.specs.Calls.{LineWritten, RegisterWritten};
 ghost use Rattle.board.specs.Tampering.{LinePut, Recharged};
@@ -50,13 +49,6 @@ impl<B> Fuse<B> {
         ensures { λ _. ⌜ (now (self .exit) .below ≡ now (self .entry) .below) × (now (self .exit) .left ≡ left) ⌝ }
     {
         self.left = left;
-    }
-
-    // What is left of the fuse.
-    pub fn left(&self) -> Option<u64>
-        ensures { λ r. ⌜ r ≡ now (self .entry) .left ⌝ }
-    {
-        self.left
     }
 
     // The board below.
@@ -135,6 +127,6 @@ pub impl<B: Board> Recharge for Fuse<B> as FuseRecharge {
         ensures supply { λ _. ⌜ B·Board .meaning (now (self .exit) .below) .power ≡ B·Board .meaning (now (self .entry) .below) .power ⌝ }
         ensures fuse { λ _. ⌜ (now (self .exit) .below ≡ now (self .entry) .below) × (now (self .exit) .left ≡ left) ⌝ }
     {
-        self.left = left;
+        self.set(left);
     }
 }

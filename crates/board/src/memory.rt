@@ -1,10 +1,12 @@
 ghost use mathlib.Core.Path.{_≡_};
-ghost use Prim.Native.Nat.{ℕ, _+_, _*_, _/_, _<_, _≤_};
-ghost use lib.ListN.{length, replicate};
+ghost use mathlib.Core.List.{_++_};
+ghost use Prim.Native.Nat.{_/_, _<_, _≤_};
+ghost use lib.ListN.{length, getD, drop, set, replicate};
 ghost use denote.Ref.{now};
-ghost use Rattle.board.specs.Memory.{memory, lineAt, lineOf, wordsOf, WordsPut};
+ghost use Rattle.board.specs.Memory.{memory, linesOf, lineAt, lineOf, wordsOf, withLine, WordsPut};
 ghost use Rattle.board.specs.Calls.{LineWritten, RegisterWritten};
 ghost use Rattle.board.specs.Tampering.{LinePut};
+ghost use Rattle.std.specs.Options.{Cases as BySome};
 ghost use Rattle.std.specs.Results.{isOk};
 use crate::board::Board;
 use crate::tamper::Tamper;
@@ -25,13 +27,29 @@ fn whole_lines(words: usize) -> usize
     words / 9
 }
 
+// Writes a body into the first eight of nine words.
+fn put_body(part: &mut [u64], body: &[u64; 8])
+    requires { ⌜ length (now part) ≡ 9 ⌝ }
+    ensures { λ _. ⌜ now (part .exit) ≡ now (body .entry) ++ drop 8 (now (part .entry)) ⌝ }
+{
+    part[0..8].copy_from_slice(body);
+}
+
+// Writes a tag into the last of nine words.
+fn put_tag(part: &mut [u64], tag: u64)
+    requires { ⌜ length (now part) ≡ 9 ⌝ }
+    ensures { λ _. ⌜ now (part .exit) ≡ set (now (part .entry)) 8 tag ⌝ }
+{
+    part[8] = tag;
+}
+
 // Writes a line into its nine words.
 fn put_line(part: &mut [u64], line: &Line)
     requires { ⌜ length (now part) ≡ 9 ⌝ }
     ensures { λ _. ⌜ now (part .exit) ≡ wordsOf (now (line .entry)) ⌝ }
 {
-    part[0..8].copy_from_slice(&line.body);
-    part[8] = line.tag;
+    put_body(part, &line.body);
+    put_tag(part, line.tag);
 }
 
 // The line that stands in nine words.
@@ -52,6 +70,23 @@ fn line_at(words: &[u64], at: usize) -> Line
     line_in(&words[9 * at..9 * at + 9])
 }
 
+// The number of lines.
+fn lines_in(words: &[u64]) -> usize
+    ensures { λ r. ⌜ r ≡ length (linesOf (now (words .entry))) ⌝ }
+{
+    whole_lines(words.len())
+}
+
+// The line at an address, if there is one.
+fn find(words: &[u64], at: usize) -> Option<Line>
+    ensures { λ r. ⌜ BySome r (length (linesOf (now (words .entry))) ≤ at) (λ l. (at < length (linesOf (now (words .entry)))) × (l ≡ getD (linesOf (now (words .entry))) at l)) ⌝ }
+{
+    if at >= whole_lines(words.len()) {
+        return None;
+    }
+    Some(line_at(words, at))
+}
+
 impl<'a> Memory<'a> {
     pub fn new(words: &'a mut [u64]) -> Memory<'a>
         ensures { λ r. ⌜ (now (r .words) ≡ now (words .entry)) × (r .register ≡ replicate 32 0) ⌝ }
@@ -69,7 +104,17 @@ impl<'a> Memory<'a> {
         self.words
     }
 
-    // Puts a line into its words; false where they have no such line.
+    // Puts a line into its nine words, which are lent from the middle of all.
+    fn overwrite(&mut self, at: usize, line: &Line)
+        requires { ⌜ at < length (now (now self .words)) / 9 ⌝ }
+        ensures words { λ _. ⌜ now (now (self .exit) .words) ≡ withLine (now (now (self .entry) .words)) at (now (line .entry)) ⌝ }
+        ensures length { λ _. ⌜ length (now (now (self .exit) .words)) ≡ length (now (now (self .entry) .words)) ⌝ }
+        ensures register { λ _. ⌜ now (self .exit) .register ≡ now (self .entry) .register ⌝ }
+    {
+        put_line(&mut self.words[9 * at..9 * at + 9], line);
+    }
+
+    // Puts a line in place; false where the words have no such line.
     fn store(&mut self, at: usize, line: &Line) -> bool
         ensures words { λ r. ⌜ WordsPut (now (now (self .entry) .words)) at (now (line .entry)) r (now (now (self .exit) .words)) ⌝ }
         ensures meaning { λ r. ⌜ LinePut (memory (now (now (self .entry) .words)) (now (self .entry) .register)) at (now (line .entry)) r (memory (now (now (self .exit) .words)) (now (self .exit) .register)) ⌝ }
@@ -78,7 +123,7 @@ impl<'a> Memory<'a> {
         if at >= whole_lines(self.words.len()) {
             return false;
         }
-        put_line(&mut self.words[9 * at..9 * at + 9], line);
+        self.overwrite(at, line);
         true
     }
 }
@@ -87,14 +132,11 @@ pub impl Board for Memory<'_> as MemoryBoard {
     ghost meaning = { λ s. memory (now (s .words)) (s .register) };
 
     fn count(&self) -> usize {
-        whole_lines(self.words.len())
+        lines_in(self.words)
     }
 
     fn read_line(&self, at: usize) -> Result<Line, BoardFault> {
-        if at >= whole_lines(self.words.len()) {
-            return Err(BoardFault::Absent);
-        }
-        Ok(line_at(self.words, at))
+        find(self.words, at).ok_or(BoardFault::Absent)
     }
 
     fn write_line(&mut self, at: usize, line: Line) -> Result<(), BoardFault>

@@ -1,8 +1,7 @@
 // Piles of boards on examples, and a generic client of the traits.
 ghost use mathlib.Core.Path.{_≡_};
 ghost use mathlib.Core.Bool.{true};
-ghost use lib.ListN.{length, set};
-ghost use Rattle.board.specs.Meaning.{lesser};
+ghost use lib.ListN.{set};
 use crate::board::Board;
 use crate::fuse::*;
 use crate::memory::*;
@@ -22,7 +21,7 @@ fn line(n: u64) -> Line {
     }
 }
 
-// Puts a line past power, then sets the power anew and writes the register.
+// Puts a line past power, then sets the power anew.
 fn swap_and_charge<B: Tamper + Recharge>(
     b: &mut B,
     at: usize,
@@ -30,7 +29,7 @@ fn swap_and_charge<B: Tamper + Recharge>(
     left: Option<u64>,
 ) -> bool
     ensures lines { λ r. ⌜ (r ≡ true → B·Board .meaning (now (b .exit)) .lines ≡ set (B·Board .meaning (now (b .entry)) .lines) at with) ⌝ }
-    ensures power { λ _. ⌜ B·Board .meaning (now (b .exit)) .register ≡ B·Board .meaning (now (b .entry)) .register ⌝ }
+    ensures register { λ _. ⌜ B·Board .meaning (now (b .exit)) .register ≡ B·Board .meaning (now (b .entry)) .register ⌝ }
 {
     let done = b.put(at, with);
     b.recharge(left);
@@ -78,7 +77,7 @@ fn fuse_of_two() -> Result<(), Fail> {
     check(swap_and_charge(&mut fuse, 1, line(9), Some(1)))?;
     check_eq(fuse.read_line(1)?.tag, 9)?;
     check_eq(fuse.write_line(1, line(2)), Ok(()))?;
-    check_eq(fuse.left(), Some(0))?;
+    check_eq(fuse.write_line(1, line(3)), Err(BoardFault::PowerLost))?;
     check_eq(fuse.into_inner().read_line(1)?.tag, 2)
 }
 
@@ -97,7 +96,7 @@ fn piles_are_boards() -> Result<(), Fail> {
     check_eq(pile.write_line(0, line(5)), Ok(()))?;
     check_eq(pile.write_line(0, line(6)), Err(BoardFault::PowerLost))?;
     check(swap_and_charge(&mut pile, 0, line(8), None))?;
-    check_eq(pile.below().left(), None)?;
+    check_eq(pile.below().count(), 3)?;
     let memory = pile.into_inner().into_inner();
     check_eq(memory.read_line(1)?.tag, 3)?;
     check_eq(memory.read_line(2)?.tag, 8)

@@ -4,7 +4,7 @@ ghost use lib.ListN.{length};
 ghost use Rattle.std.specs.Options.{Cases as BySome};
 ghost use Rattle.board.specs.Calls.{LineWritten, RegisterWritten};
 ghost use Rattle.board.specs.Tampering.{LinePut, Recharged};
-ghost use Rattle.board.specs.Piles.{windowed, LineShown, PutShown};
+ghost use Rattle.board.specs.Piles.{windowed, Shows, LineShown, PutShown};
 use crate::board::Board;
 use crate::tamper::Recharge;
 use crate::tamper::Tamper;
@@ -26,7 +26,7 @@ fn shown(count: usize, start: usize, len: usize) -> usize
     count.saturating_sub(start).min(len)
 }
 
-// The address below of the line that a window shows at `at`.
+// The address below of the line that a window on `count` lines shows at `at`.
 fn address(count: usize, start: usize, len: usize, at: usize) -> Option<usize>
     ensures { λ r. ⌜ BySome r (min len (count - start) ≤ at) (λ k. (at < min len (count - start)) × (k ≡ start + at)) ⌝ }
 {
@@ -34,6 +34,20 @@ fn address(count: usize, start: usize, len: usize, at: usize) -> Option<usize>
         return None;
     }
     Some(start + at)
+}
+
+// How many lines a window shows of a board.
+fn shown_of<B: Board>(below: &B, start: usize, len: usize) -> usize
+    ensures { λ r. ⌜ r ≡ length (windowed (B·Board .meaning (now (below .entry))) start len .lines) ⌝ }
+{
+    shown(below.count(), start, len)
+}
+
+// The address below of the line that a window on a board shows at `at`.
+fn place<B: Board>(below: &B, start: usize, len: usize, at: usize) -> Option<usize>
+    ensures { λ r. ⌜ BySome r (length (windowed (B·Board .meaning (now (below .entry))) start len .lines) ≤ at) (λ k. Shows (B·Board .meaning (now (below .entry)) .lines) start len at k) ⌝ }
+{
+    address(below.count(), start, len, at)
 }
 
 impl<B> Window<B> {
@@ -67,11 +81,11 @@ pub impl<B: Board> Board for Window<B> as WindowBoard {
     ghost meaning = { λ s. windowed (B·Board .meaning (s .below)) (s .start) (s .len) };
 
     fn count(&self) -> usize {
-        shown(self.below.count(), self.start, self.len)
+        shown_of(&self.below, self.start, self.len)
     }
 
     fn read_line(&self, at: usize) -> Result<Line, BoardFault> {
-        let Some(k) = address(self.below.count(), self.start, self.len, at) else {
+        let Some(k) = place(&self.below, self.start, self.len, at) else {
             return Err(BoardFault::Absent);
         };
         self.below.read_line(k)
@@ -82,7 +96,7 @@ pub impl<B: Board> Board for Window<B> as WindowBoard {
         ensures below { λ r. ⌜ LineShown (B·Board .meaning (now (self .entry) .below)) (now (self .entry) .start) at line r (B·Board .meaning (now (self .exit) .below)) ⌝ }
         ensures frame { λ _. ⌜ (now (self .exit) .start ≡ now (self .entry) .start) × (now (self .exit) .len ≡ now (self .entry) .len) ⌝ }
     {
-        let Some(k) = address(self.below.count(), self.start, self.len, at) else {
+        let Some(k) = place(&self.below, self.start, self.len, at) else {
             return Err(BoardFault::Absent);
         };
         self.below.write_line(k, line)
@@ -107,7 +121,7 @@ pub impl<B: Tamper> Tamper for Window<B> as WindowTamper {
         ensures below { λ r. ⌜ PutShown (B·Board .meaning (now (self .entry) .below)) (now (self .entry) .start) at line r (B·Board .meaning (now (self .exit) .below)) ⌝ }
         ensures frame { λ _. ⌜ (now (self .exit) .start ≡ now (self .entry) .start) × (now (self .exit) .len ≡ now (self .entry) .len) ⌝ }
     {
-        let Some(k) = address(self.below.count(), self.start, self.len, at) else {
+        let Some(k) = place(&self.below, self.start, self.len, at) else {
             return false;
         };
         self.below.put(k, line)

@@ -11,7 +11,7 @@ use mathlib.Core.Bool.{false}
 use lib.Bits.{bitXor}
 use lib.Dec.{eqb}
 use lib.ListN.{getD, length, set, take, drop, replicate}
-use Rattle.std.proofs.shelf.Lists.{length-set, getD-set-same, getD-set-other, getD-past, length-append, length-replicate, append-assoc, drop-replicate, replicate-append-replicate, set-at, take-at, take-all, take-rest}
+use Rattle.std.proofs.shelf.Lists.{length-set, getD-set-same, getD-set-other, getD-past, length-append, length-drop, length-replicate, append-assoc, drop-replicate, replicate-append-replicate, set-at, take-at, take-all, take-rest}
 use Rattle.std.proofs.shelf.Counted.{fill-by-all}
 use Rattle.aes.specs.Aes.{xor-blocks}
 use Rattle.cmac.specs.Cmac.{cmac, chained, zeros, shifted, doubled, padded, last-block, subkey1, subkey2, before-last}
@@ -34,10 +34,13 @@ chained-more ciph m x b t y i e f g h =
     let step : chained ciph m (i + 1) ≡ ciph (xor-blocks (chained ciph m i) (take 16 (drop (16 * i) m))) = rw add-one refl in
     cc
 
--- The last block, after the n blocks before it.
-pub tagged : (ciph : List ℕ → List ℕ) (m x l t y : List ℕ) (i n : ℕ) → i ≡ n → n ≡ before-last m → x ≡ chained ciph m i → l ≡ last-block ciph (take (length m - 16 * n) (drop (16 * n) m)) → t ≡ xor-blocks x l → y ≡ ciph t → y ≡ cmac ciph m
-unfolding cmac
-tagged ciph m x l t y i n p q e f g h = let r = take-rest m (16 * n) in cc
+-- What is left after the blocks before the last.
+pub tail-from : (m : List ℕ) (s : ℕ) → s ≡ length m - 1 → (take (length m - s / 16 * 16) (drop (s / 16 * 16) m) ≡ drop (16 * before-last m) m) × (length (take (length m - s / 16 * 16) (drop (s / 16 * 16) m)) ≤ 16)
+tail-from m s e =
+    let n : s / 16 * 16 ≡ 16 * before-last m = omega arith in
+    let r = take-rest m (s / 16 * 16) in
+    let few : length (drop (s / 16 * 16) m) ≤ 16 = simp length-drop (omega arith) in
+    (r ∙ ap (λ (k : ℕ). drop k m) n, rw r few)
 
 zeros-from : (n : ℕ) → n < 16 → drop n zeros ≡ 0 ∷ replicate (15 - n) 0
 zeros-from n h =
@@ -69,5 +72,5 @@ unfolding last-block
 last-whole ciph m b k r n e f g = let t = take-all 16 m (omega arith) in rw n (cc)
 
 pub last-short : (ciph : List ℕ → List ℕ) (m b j k r : List ℕ) → length m < 16 → b ≡ padded m → j ≡ subkey1 ciph → k ≡ doubled j → r ≡ xor-blocks b k → r ≡ last-block ciph m
-unfolding last-block subkey2
+unfolding last-block
 last-short ciph m b j k r n e f g h = let t : eqb (length m) 16 ≡ false = ne-eqb (length m) 16 (λ q. omega arith) in rw t (cc)

@@ -20,11 +20,11 @@ abbrev pub zeros : List ℕ
 zeros = replicate 16 0
 
 -- The subkey for a complete last block.
-unfoldable pub subkey1 : (List ℕ → List ℕ) → List ℕ
+abbrev pub subkey1 : (List ℕ → List ℕ) → List ℕ
 subkey1 ciph = doubled (ciph zeros)
 
 -- The subkey for a padded one.
-unfoldable pub subkey2 : (List ℕ → List ℕ) → List ℕ
+abbrev pub subkey2 : (List ℕ → List ℕ) → List ℕ
 subkey2 ciph = doubled (subkey1 ciph)
 
 -- A block of less than 16 bytes, padded by a bit 1 and zeros.
@@ -45,5 +45,5 @@ chained ciph m zero = zeros
 chained ciph m (suc i) = ciph (xor-blocks (chained ciph m i) (take 16 (drop (16 * i) m)))
 
 -- The tag of a message.
-unfoldable pub cmac : (List ℕ → List ℕ) → List ℕ → List ℕ
+abbrev pub cmac : (List ℕ → List ℕ) → List ℕ → List ℕ
 cmac ciph m = ciph (xor-blocks (chained ciph m (before-last m)) (last-block ciph (drop (16 * before-last m) m)))

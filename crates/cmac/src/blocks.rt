@@ -1,9 +1,9 @@
 // Blocks of 16 bytes.
 ghost use mathlib.Core.Path.{_≡_};
-ghost use Prim.Native.Nat.{_+_, _<_, _≤_};
+ghost use Prim.Native.Nat.{_+_, _*_, _<_, _≤_};
 ghost use lib.ListN.{length, take, drop};
 ghost use Rattle.aes.specs.Aes.{xor-blocks};
-ghost use Rattle.cmac.specs.Cmac.{shifted, doubled, padded};
+ghost use Rattle.cmac.specs.Cmac.{shifted, doubled, padded, before-last};
 
 // Two blocks added byte by byte.
 pub(crate) fn xor(a: &[u8; 16], b: &[u8; 16]) -> [u8; 16]
@@ -47,6 +47,13 @@ pub(crate) fn block_at(message: &[u8], at: usize) -> [u8; 16]
     let mut out = [0; 16];
     out.copy_from_slice(&message[at..at + 16]);
     out
+}
+
+// The last block of a message, of at most 16 bytes.
+pub(crate) fn tail(message: &[u8]) -> &[u8]
+    ensures { λ r. ⌜ now r ≡ drop (16 * before-last (now (message .entry))) (now (message .entry)) ⌝ ∗ ⌜ length (now r) ≤ 16 ⌝ }
+{
+    &message[message.len().saturating_sub(1) / 16 * 16..]
 }
 
 // A short block padded by a bit 1 and zeros.

@@ -4,13 +4,14 @@ mod blocks;
 use crate::blocks::block_at;
 use crate::blocks::doubled;
 use crate::blocks::padded;
+use crate::blocks::tail;
 use crate::blocks::xor;
 use aes::Aes128;
 ghost use mathlib.Core.Path.{_≡_};
 ghost use Prim.Native.Nat.{_≤_};
 ghost use lib.ListN.{length};
 ghost use Rattle.aes.specs.Aes.{aes128};
-ghost use Rattle.cmac.specs.Cmac.{cmac, subkey1, last-block};
+ghost use Rattle.cmac.specs.Cmac.{cmac, chained, before-last, subkey1, last-block};
 
 // A key of AES-CMAC, with its first subkey.
 #[derive(Clone, Copy)]
@@ -29,7 +30,19 @@ impl CmacKey {
         CmacKey { aes, k1 }
     }
 
-    // The last block of a message, complete or padded, with its subkey.
+    // The chain after the blocks before the last.
+    fn chain(&self, message: &[u8]) -> [u8; 16]
+        ensures { λ r. ⌜ r ≡ chained (aes128 (now (self .entry) .aes .key)) (now (message .entry)) (before-last (now (message .entry))) ⌝ }
+    {
+        let mut chain = [0; 16];
+        for i in 0..message.len().saturating_sub(1) / 16 {
+            let next = self.aes.encrypt(&xor(&chain, &block_at(message, 16 * i)));
+            chain = next;
+        }
+        chain
+    }
+
+    // The last block, complete or padded, with its subkey.
     fn last_block(&self, rest: &[u8]) -> [u8; 16]
         requires { ⌜ length (now rest) ≤ 16 ⌝ }
         ensures { λ r. ⌜ r ≡ last-block (aes128 (now (self .entry) .aes .key)) (now (rest .entry)) ⌝ }
@@ -45,13 +58,7 @@ impl CmacKey {
     pub fn tag(&self, message: &[u8]) -> [u8; 16]
         ensures { λ r. ⌜ r ≡ cmac (aes128 (now (self .entry) .aes .key)) (now (message .entry)) ⌝ }
     {
-        let before = message.len().saturating_sub(1) / 16;
-        let mut chain = [0; 16];
-        for i in 0..before {
-            let next = self.aes.encrypt(&xor(&chain, &block_at(message, 16 * i)));
-            chain = next;
-        }
-        let last = self.last_block(&message[16 * before..]);
-        self.aes.encrypt(&xor(&chain, &last))
+        let last = self.last_block(tail(message));
+        self.aes.encrypt(&xor(&self.chain(message), &last))
     }
 }

@@ -3,7 +3,7 @@ use Prim.Native.Nat.{ℕ, _≤_, _<_}
 use mathlib.Core.Path.{_≡_, refl, sym, ap, _∙_, subst}
 use mathlib.Core.Logic.{_⊎_, inl, inr}
 use mathlib.Core.Bool.{Bool, true, false, cond}
-use mathlib.Core.List.{List, [], _∷_}
+use mathlib.Core.List.{List, []}
 use mathlib.Core.Option.{Option, some, none}
 use native.Mathlib.Omega.{arith}
 use lib.Dec.{ltb}
@@ -26,7 +26,8 @@ use Rattle.machine.specs.Plans.{Table, map-count, recover}
 use Rattle.machine.specs.History.{Chip as ChipState, latched, World, bring-up, Answer, refused, after, power-lost-at, journal-writes, journal-in, bring-up-check, recovered-answer, recovered-chip, Brought-up, Reached}
 use Rattle.machine.specs.CommitLaws.{Register-law}
 use Rattle.machine.proofs.Basics.{none≢some, some-inj}
-use Rattle.machine.proofs.EightAry.{history-holds}
+use Rattle.machine.proofs.EightAry.{eight-trees}
+use Rattle.machine.proofs.HistoryHolds.{keeps-promises}
 use Rattle.std.specs.declared.option.Option.{Option as Maybe}
 use Rattle.tree.specs.SlotTable.{table-in}
 use Rattle.controller.specs.declared.chip.Chip.{Chip}
@@ -181,7 +182,7 @@ module _ (S : Scheme) (cap : ℕ) (m : Meaning) (x : Answer) (m′ : Meaning) (w
   brings-keep-others K d = keeps K (cold-in m) (bring-up cap (S .number)) x w′ (λ l R. (l, tt, go l R (bring-up-check eight-ary cap (S .number) (state-in m)) refl b))
     where
       own : (l : Log) → Reached eight-ary K (cold-in m) l → bring-up-check eight-ary cap (S .number) (state-in m) ≡ none → ⊥
-      own l R e = at (history-holds K (cold-in m) l R .2)
+      own l R e = at (keeps-promises eight-ary eight-trees K (cold-in m) l R .register)
         where
           n : (register-in (m .register) .formatted ≡ 1) × (S .number ≡ register-in (m .register) .suite)
           n = passed-number (S .number) cap m e

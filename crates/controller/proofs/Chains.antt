@@ -2,11 +2,11 @@
 use Prim.Native.Nat.{ℕ, zero, suc, _+_, _≤_, _<_}
 use mathlib.Core.Path.{_≡_, refl, sym, ap, _∙_, subst}
 use mathlib.Core.Logic.{_⊎_, inl, inr}
-use mathlib.Core.Bool.{Bool, true, false, cond}
+use mathlib.Core.Bool.{cond}
 use mathlib.Core.List.{List, [], _∷_, _++_}
 use mathlib.Core.Option.{Option, some, none}
 use native.Mathlib.Omega.{arith}
-use lib.Dec.{ltb, eqb}
+use lib.Dec.{eqb}
 use lib.ListN.{length}
 use Rattle.std.proofs.shelf.Tests.{lt-ltb, le-ltb, cases-lt}
 use Rattle.std.proofs.shelf.Lists.{length-append}
@@ -123,6 +123,9 @@ module _ (r : Run) (f : View → Run) (m m₁ : Meaning) (t₁ : Table) (n n₁ 
           y .says ∙ ap (λ b. cond b (some (power-lost-at (y .done) (f (view-in m₁ t₁) .planned))) (f (view-in m₁ t₁) .ends)) (le-ltb _ _ h)
           ∙ sym (ap (λ b. cond b (some (power-lost-at (length (r .planned) + y .done) (r .planned ++ f (view-in m₁ t₁) .planned))) (f (view-in m₁ t₁) .ends)) (le-ltb (length (r .planned) + y .done) (length (r .planned ++ f (view-in m₁ t₁) .planned)) (omega (arith, long))))
 
+      none-of : commits-in (length (r .planned) + y .done) (r .planned ++ f (view-in m₁ t₁) .planned) ≡ 0 → commits-in (length (r .planned)) (r .planned) ≡ 0
+      none-of e = omega (arith, e, commits-back (r .planned) (f (view-in m₁ t₁) .planned) (y .done))
+
       both : Went (joined (f (view-in m₁ t₁))) m o m₂ t₂ n n₂
       both =
           record {
@@ -132,6 +135,7 @@ module _ (r : Run) (f : View → Run) (m m₁ : Meaning) (t₁ : Table) (n n₁ 
             says = ends (cases-lt (y .done) (length (f (view-in m₁ t₁) .planned)));
             whole = λ e. y .whole (omega (arith, long));
             counted = omega (arith, x .counted ∙ ap (λ k. n + commits-in k (r .planned)) (full .0), y .counted, commits-back (r .planned) (f (view-in m₁ t₁) .planned) (y .done));
+            still = λ e. y .still (omega (arith, e, commits-back (r .planned) (f (view-in m₁ t₁) .planned) (y .done))) ∙ x .still (ap (λ k. commits-in k (r .planned)) (full .0) ∙ none-of e);
             lost = λ z e c. omega (arith, long, y .lost z e c);
           }
 
@@ -156,6 +160,7 @@ module _ (r : Run) (f : View → Run) (m m₁ : Meaning) (t₁ : Table) (n n₁ 
                     ∙ sym (ap (λ b. cond b (some (power-lost-at (y .done) (r .planned ++ f (r .view) .planned))) (f (r .view) .ends)) (lt-ltb (y .done) (length (r .planned ++ f (r .view) .planned)) (omega (arith, long))) ∙ ap (λ a. some (fault power-lost a)) (place-front (r .planned) (f (r .view) .planned) (y .done) h));
                 whole = λ e. absurd (omega (arith, long));
                 counted = y .counted ∙ ap (λ k. n + k) (sym (commits-front (r .planned) (f (r .view) .planned) (y .done) (omega arith)));
+                still = λ e. y .still (sym (commits-front (r .planned) (f (r .view) .planned) (y .done) (omega arith)) ∙ e);
                 lost = λ z e c. omega (arith, long);
               }
 

@@ -1,8 +1,6 @@
 -- What a writing call did, from what came of its run.
-use Prim.Native.Nat.{ℕ, _/_, _^_, _≤_, _<_}
+use Prim.Native.Nat.{ℕ, _^_, _≤_}
 use mathlib.Core.Path.{_≡_, refl, sym, ap, _∙_, subst}
-use mathlib.Core.Bool.{Bool, true, false, cond}
-use mathlib.Core.List.{List, []}
 use mathlib.Core.Option.{Option, some, none}
 use native.Mathlib.Omega.{arith}
 use lib.ListN.{length}
@@ -15,11 +13,11 @@ use Rattle.board.specs.declared.types.BoardFault.the-variants.{Absent, PowerLos
 use Rattle.controller.specs.declared.types.TreeFault.{TreeFault}
 use Rattle.controller.specs.declared.types.TreeFault.the-variants.{Board, Corrupt, AtLimit, SumMismatch}
 use Rattle.controller.specs.declared.types.Fault.{Fault}
-use Rattle.controller.specs.declared.types.Fault.the-variants.{Tree, NotData}
+use Rattle.controller.specs.declared.types.Fault.the-variants.{Tree}
 use Rattle.suite.specs.Scheme.{Body, Scheme}
 use Rattle.board.specs.Meaning.{Meaning}
 use Rattle.machine.specs.Layout.{eight-ary, lines-of}
-use Rattle.machine.specs.Store.{Log, log-after}
+use Rattle.machine.specs.Store.{Log, log-after, commits-in}
 use Rattle.machine.specs.Words.{row, state-in}
 use Rattle.machine.specs.Faults.{Fault as Why, fault, number, not-data, too-few-lines, corrupt, sum-mismatch, power-lost, at-limit}
 use Rattle.machine.specs.Plans.{Table, Run, stop, evict-until, read-call, write-call, flush-call}
@@ -29,7 +27,7 @@ use Rattle.machine.proofs.EightAry.{eight-trees}
 use Rattle.machine.proofs.Steps.{write-outside}
 use Rattle.controller.specs.Views.{fault-of, controller-says, view-in, Fits}
 use Rattle.controller.specs.Runs.{Went, ended}
-use Rattle.controller.specs.Worlds.{world-by, report-by, latch-of, call-check, Runs-as, read-by}
+use Rattle.controller.specs.Worlds.{world-by, report-by, latch-of, commits-of, call-check, Runs-as, read-by}
 use Rattle.controller.proofs.Chains.{said-none, kept-whole}
 use Rattle.controller.proofs.RunEvents.{ran-whole, ran-lost}
 use Rattle.controller.proofs.EvictSteps.{went-none}
@@ -54,6 +52,11 @@ module _ (S : Scheme) (m : Meaning) (n : ℕ) (m′ : Meaning) (t′ : Table) (k
       at Absent a W = whole r (fault too-few-lines 0) W (λ e. omega (arith, ap number e)) l
       at PowerLost a W = (log-after (W .done) (r .planned) l, ran-lost S n l r m m′ t′ (some (fault power-lost a)) k W (Tree (Board (record { fault = PowerLost; line = a }))) refl (W .lost (fault power-lost a) refl refl))
 
+-- A report without commits.
+reported : (z : Result (Unit {0}) Fault) (k : ℕ) → commits-of (report-by z k) ≡ 0 → k ≡ 0
+reported (Ok u) k e = e
+reported (Err f) k e = e
+
 module _ (S : Scheme) (m : Meaning) (n : ℕ) (t : Table) (lv used : ℕ) (s : Maybe Fault) (r : Run) where
   -- A latched fault.
   pub does-latched : (f : Fault) → s ≡ Some f → Runs-as s (call-check m lv used) m n t r (refused (fault-of f) 0) m (world-by m s n t)
@@ -66,21 +69,26 @@ module _ (S : Scheme) (m : Meaning) (n : ℕ) (t : Table) (lv used : ℕ) (s : M
         subst (λ (x : Maybe Fault). Runs-as x (call-check m lv used) m n t r (refused (fault-of f) 0) m (world-by m x n t)) (sym p)
         (subst (λ (o : Option Why). Runs-as None o m n t r (refused (fault-of f) 0) m (world-by m None n t)) (sym q) (refl, refl, refl))
 
-    does-run : call-check m lv used ≡ none → (x : Answer) (m′ : Meaning) (w′ : World) → ((l : Log) → (l′ : Log) × Ran n r (state-in m) l x w′ l′) → Runs-as s (call-check m lv used) m n t r x m′ w′
+    does-run : call-check m lv used ≡ none → (x : Answer) (m′ : Meaning) (w′ : World) → ((l : Log) → (l′ : Log) × Ran n r (state-in m) l x w′ l′) × (commits-of x ≡ 0 → m′ .register ≡ m .register) → Runs-as s (call-check m lv used) m n t r x m′ w′
     does-run q x m′ w′ f = subst (λ (y : Maybe Fault). Runs-as y (call-check m lv used) m n t r x m′ w′) (sym p) (subst (λ (o : Option Why). Runs-as None o m n t r x m′ w′) (sym q) f)
 
     -- The run.
     pub does-call : call-check m lv used ≡ none → (m′ : Meaning) (t′ : Table) (k : ℕ) (y : Result (Unit {0}) TreeFault) (z : Result (Unit {0}) Fault) → z ≡ controller-says y → (s′ : Maybe Fault) → s′ ≡ latch-of y → Went r m (ended y) m′ t′ 0 k → Runs-as s (call-check m lv used) m n t r (report-by z k) m′ (world-by m′ s′ n t′)
     does-call q m′ t′ k y z zi s′ si W =
-        does-run q (report-by z k) m′ (world-by m′ s′ n t′)
-        (λ l. let v = call-ran S m n m′ t′ k r y W l in
-        (v .0, subst (λ (a : Result (Unit {0}) Fault). Ran n r (state-in m) l (report-by a k) (world-by m′ s′ n t′) (v .0)) (sym zi) (subst (λ (b : Maybe Fault). Ran n r (state-in m) l (report-by (controller-says y) k) (world-by m′ b n t′) (v .0)) (sym si) (v .1))))
+        does-run q (report-by z k) m′ (world-by m′ s′ n t′) (
+          (λ l. let v = call-ran S m n m′ t′ k r y W l in
+              (v .0, subst (λ (a : Result (Unit {0}) Fault). Ran n r (state-in m) l (report-by a k) (world-by m′ s′ n t′) (v .0)) (sym zi) (subst (λ (b : Maybe Fault). Ran n r (state-in m) l (report-by (controller-says y) k) (world-by m′ b n t′) (v .0)) (sym si) (v .1)))),
+          λ e. W .still (sym (silent W) ∙ reported z k e),
+        )
+      where
+        silent : (W : Went r m (ended y) m′ t′ 0 k) → k ≡ commits-in (W .done) (r .planned)
+        silent W = omega (arith, W .counted)
 
-    -- Nothing but a refusal.
+    -- A refusal and nothing else.
     pub does-stop : call-check m lv used ≡ none → (x : Why) → (x .cause ≡ power-lost → ⊥) → stop (view-in m t) x ≡ r → Runs-as s (call-check m lv used) m n t r (refused x 0) m (world-by m s n t)
     does-stop q x f e =
         subst (λ (y : Maybe Fault). Runs-as s (call-check m lv used) m n t r (refused x 0) m (world-by m y n t)) (sym p)
-        (does-run q (refused x 0) m (world-by m None n t) (λ l. whole S m n m t 0 r x (subst (λ (u : Run). Went u m (some x) m t 0 0) e (went-none m t x 0 f)) f l))
+        (does-run q (refused x 0) m (world-by m None n t) ((λ l. whole S m n m t 0 r x (subst (λ (u : Run). Went u m (some x) m t 0 0) e (went-none m t x 0 f)) f l), λ _. refl))
 
 module _ (S : Scheme) (m : Meaning) (n : ℕ) (t : Table) (lv used : ℕ) (s : Maybe Fault) (p : s ≡ None) (h : ℕ) (F : Fits h m) (q : call-check m lv used ≡ none) where
   pub does-beyond : (a : ℕ) (b : Body) → 8 ^ h ≤ a → Runs-as s (call-check m lv used) m n t (write-call (eight-ary (row (m .register) 1)) S n (view-in m t) a b) (refused (fault not-data a) 0) m (world-by m s n t)

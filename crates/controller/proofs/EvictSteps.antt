@@ -1,48 +1,37 @@
--- Giving a node's line, and putting a node out, one step at a time.
-use Prim.Native.Nat.{ℕ, zero, suc, _+_, _-_, _*_, _/_, _%_, _^_, _≤_, _<_}
+-- Evicting a node, one step at a time.
+use Prim.Native.Nat.{ℕ, zero, suc, _+_, _/_, _%_, _^_, _≤_, _<_}
 use mathlib.Core.Path.{_≡_, refl, sym, ap, _∙_, subst}
 use mathlib.Core.Logic.{_⊎_, inl, inr}
-use mathlib.Core.Bool.{Bool, true, false, cond, _&&_}
-use mathlib.Core.List.{List, [], _∷_}
+use mathlib.Core.Bool.{Bool, true, false, cond}
 use mathlib.Core.Option.{Option, some, none}
 use native.Mathlib.Omega.{arith}
-use lib.Dec.{ltb, leb, eqb}
-use lib.ListN.{length, getD, set}
-use Rattle.std.proofs.shelf.Tests.{lt-ltb, le-ltb, leb-true, leb-false, leb-true, and-parts, both-ways, cases-bool, ltb-true, cases-lt}
-use Rattle.std.proofs.shelf.Lists.{getD-past}
+use lib.Dec.{leb, eqb}
+use Rattle.std.proofs.shelf.Tests.{lt-ltb, le-ltb, leb-true, leb-false, leb-true, and-parts, both-ways, cases-bool, cases-lt}
 use Rattle.suite.specs.Scheme.{Body, Scheme, right}
 use Rattle.board.specs.Meaning.{Meaning, Power, endless, writes}
 use Rattle.machine.specs.Layout.{TreeLaws, update, eight-ary, lines-of, every, counter-limit}
-use Rattle.machine.specs.Store.{Cut, after-writes, commits-in, line-at, write-register, write-line}
-use Rattle.machine.specs.Words.{memory-in}
+use Rattle.machine.specs.Store.{Cut, after-writes, commits-in}
+use Rattle.machine.specs.Words.{register-in, memory-in}
 use Rattle.machine.specs.Faults.{Fault, number, fault, Outcome, ok, err, corrupt, power-lost, at-limit}
-use Rattle.machine.specs.Plans.{Table, View, Run, Slot, is-dirty, slot-counters, held, in-line, node-valid, stop, and-then, counter-at, counter-of, raise-table, slot-for, commit-register, commit-under, commit-at, commit, overdue, evict-now, evict-at, evict}
+use Rattle.machine.specs.Plans.{Table, View, Slot, is-dirty, slot-counters, held, in-line, node-valid, stop, and-then, counter-at, counter-of, commit-under, commit-at, commit, overdue, evict-now, evict}
 use Rattle.controller.specs.Views.{view-in, Fits}
 use Rattle.controller.specs.Runs.{Went}
 use Rattle.controller.specs.Registers.{Room, Room-at, Small-at, Left-slot}
 use Rattle.machine.proofs.Basics.{update-same, update-other, every-at, err≢ok, some-inj}
 use Rattle.machine.proofs.Trails.{raise-other}
 use Rattle.machine.proofs.EightAry.{eight-trees}
+use Rattle.machine.proofs.Steps.{evict-under-root, evict-under-node}
 use Rattle.controller.proofs.Chains.{went-view}
 use Rattle.controller.proofs.CounterSteps.{counter-node}
 
 -- A fault before any write.
 pub went-none : (m : Meaning) (t : Table) (x : Fault) (n : ℕ) → (x .cause ≡ power-lost → ⊥) → Went (stop (view-in m t) x) m (some x) m t n n
 unfolding after-writes commits-in
-went-none m t x n h = record { done = 0; cut = still (m .power); left-is = refl; says = refl; whole = λ _. refl; counted = omega arith; lost = λ y e c. absurd (h (ap (λ (z : Fault). z .cause) (some-inj e) ∙ c)) }
+went-none m t x n h = record { done = 0; cut = still (m .power); left-is = refl; says = refl; whole = λ _. refl; counted = omega arith; still = λ _. refl; lost = λ y e c. absurd (h (ap (λ (z : Fault). z .cause) (some-inj e) ∙ c)) }
   where
     still : (p : Power) → Cut p 0 0 p
     still endless = refl
     still (writes n) = (omega arith, omega arith, (λ h. absurd (omega arith)), λ _. refl)
-
--- A commit does not ask what the slots of its view hold.
-raise-same : (h : ℕ) (S : Scheme) (m : Meaning) (t u w : Table) (a c r : ℕ) → raise-table (eight-ary h) r ((view-in m t) .memory) w a c ≡ raise-table (eight-ary h) r ((view-in m u) .memory) w a c
-raise-same h S m t u w a c zero = refl
-raise-same h S m t u w a c (suc r) = ap (λ s. update w (8 ^ h + a / 8) (some (record { counters = update (s .counters) (a % 8) c; pending = suc (s .pending) }))) (slot (w (8 ^ h + a / 8)))
-  where
-    slot : (o : Option Slot) → slot-for ((view-in m t) .memory) o (8 ^ h + a / 8) ≡ slot-for ((view-in m u) .memory) o (8 ^ h + a / 8)
-    slot (some s) = refl
-    slot none = refl
 
 module _ (h : ℕ) (S : Scheme) (m : Meaning) (t : Table) (a : ℕ) where
   abbrev v : View
@@ -57,32 +46,25 @@ module _ (h : ℕ) (S : Scheme) (m : Meaning) (t : Table) (a : ℕ) where
   unfolding evict-now commit
   now-at-limit c e k = ap (commit-at (eight-ary h) S v (update t a none) a (slot-counters (t a))) (sym e) ∙ ap (λ b. cond b (commit-under (eight-ary h) S (v .memory) (v .register) (update t a none) a (slot-counters (t a)) (suc c)) (stop v (fault at-limit a))) (le-ltb c counter-limit k)
 
-  abbrev made : ℕ → Table → Run
-  made c w = record { planned = write-register a (record { at = a; counter = suc c; body = slot-counters (t a) } ∷ []) (commit-register (eight-ary h) (v .register) w a (suc c) (line-at (eight-ary h) S a (suc c) (slot-counters (t a)))) ∷ write-line a (line-at (eight-ary h) S a (suc c) (slot-counters (t a))) ∷ []; view = record { memory = update (memory-in (m .lines)) a (line-at (eight-ary h) S a (suc c) (slot-counters (t a))); register = commit-register (eight-ary h) (v .register) w a (suc c) (line-at (eight-ary h) S a (suc c) (slot-counters (t a))); table = w }; ends = none }
-
-  pub now-committed : (c : ℕ) → ok c ≡ counter-of (eight-ary h) S v a → c < counter-limit → (t′ : Table) → t′ ≡ update t a none → (b : Body) → b ≡ slot-counters (t a) → commit-under (eight-ary h) S ((view-in m t′) .memory) ((view-in m t′) .register) t′ a b (c + 1) ≡ evict-now (eight-ary h) S v a
+  pub now-committed : (c : ℕ) → ok c ≡ counter-of (eight-ary h) S v a → c < counter-limit → (t′ : Table) → t′ ≡ update t a none → (b : Body) → b ≡ slot-counters (t a) → commit-under (eight-ary h) S (memory-in (m .lines)) (register-in (m .register)) t′ a b (c + 1) ≡ evict-now (eight-ary h) S v a
   unfolding evict-now commit
   now-committed c e k t′ f b g =
-      (λ i. commit-under (eight-ary h) S ((view-in m (f i)) .memory) ((view-in m (f i)) .register) (f i) a (g i) (plus i))
-      ∙ ap (made c) same
+      (λ i. commit-under (eight-ary h) S (v .memory) (v .register) (f i) a (g i) (plus i))
       ∙ sym (ap (commit-at (eight-ary h) S v (update t a none) a (slot-counters (t a))) (sym e) ∙ ap (λ b. cond b (commit-under (eight-ary h) S (v .memory) (v .register) (update t a none) a (slot-counters (t a)) (suc c)) (stop v (fault at-limit a))) (lt-ltb c counter-limit k))
     where
       plus : c + 1 ≡ suc c
       plus = omega arith
 
-      same : raise-table (eight-ary h) (eight-ary h .depth (8 ^ h + a / 8)) ((view-in m (update t a none)) .memory) (update t a none) a (suc c) ≡ raise-table (eight-ary h) (eight-ary h .depth (8 ^ h + a / 8)) (v .memory) (update t a none) a (suc c)
-      same = raise-same h S m (update t a none) t (update t a none) a (suc c) (eight-ary h .depth (8 ^ h + a / 8))
-
   module _ (F : Fits h m) (k : a < lines-of h) where
     L : TreeLaws (eight-ary h)
     L = eight-trees h (F .low) (F .high)
 
-    restored : a < 8 ^ h + a / 8
-    restored = L .parent-above a k
+    up : a < 8 ^ h + a / 8
+    up = L .parent-above a k
 
     -- The parent's slot is another than the node's.
     pub parent-kept : (t′ : Table) → t′ ≡ update t a none → t′ (8 ^ h + a / 8) ≡ t (8 ^ h + a / 8)
-    parent-kept t′ e = ap (λ (w : Table). w (8 ^ h + a / 8)) e ∙ update-other t a none (8 ^ h + a / 8) (λ x. omega (arith, restored))
+    parent-kept t′ e = ap (λ (w : Table). w (8 ^ h + a / 8)) e ∙ update-other t a none (8 ^ h + a / 8) (λ x. omega (arith, up))
 
     pub room-after : (t′ : Table) (used : ℕ) → t′ ≡ update t a none → (8 ^ h + a / 8 < lines-of h → overdue (t (8 ^ h + a / 8)) ≡ false) → used < 64 → Room-at (eight-ary h) a used t′
     room-after t′ used e f n x = subst (Room used) (sym (parent-kept t′ e)) (at (t (8 ^ h + a / 8)) (f x))
@@ -106,25 +88,10 @@ module _ (h : ℕ) (S : Scheme) (m : Meaning) (t : Table) (a : ℕ) where
         fine : (d : ℕ) × (node-valid (eight-ary h) S (memory-in (m .lines)) (8 ^ h + a / 8) d ≡ true)
         fine = from (counter-of (eight-ary h) S v (8 ^ h + a / 8)) (e ∙ counter-node (eight-ary h) L S v a k x ∙ ap (λ o. held o (a % 8) (in-line (eight-ary h) S (memory-in (m .lines)) (8 ^ h + a / 8) (a % 8) (counter-of (eight-ary h) S v (8 ^ h + a / 8)))) (sym (parent-kept t′ f) ∙ y))
 
-    pub left-after : (t′ : Table) → t′ ≡ update t a none → (b : Body) (c : ℕ) (o : Option Fault) (m″ : Meaning) (t″ : Table) (n n′ : ℕ) → Went (commit-under (eight-ary h) S ((view-in m t′) .memory) ((view-in m t′) .register) t′ a b c) m o m″ t″ n n′ → Left-slot (eight-ary h) a t o t″
+    pub left-after : (t′ : Table) → t′ ≡ update t a none → (b : Body) (c : ℕ) (o : Option Fault) (m″ : Meaning) (t″ : Table) (n n′ : ℕ) → Went (commit-under (eight-ary h) S (memory-in (m .lines)) (register-in (m .register)) t′ a b c) m o m″ t″ n n′ → Left-slot (eight-ary h) a t o t″
     left-after t′ f b c o m″ t″ n n′ w e q x =
-        let g = went-view (commit-under (eight-ary h) S ((view-in m t′) .memory) ((view-in m t′) .register) t′ a b c) m m″ t″ n n′ (subst (λ (z : Option Fault). Went (commit-under (eight-ary h) S ((view-in m t′) .memory) ((view-in m t′) .register) t′ a b c) m z m″ t″ n n′) e w) in
-        ap (λ (z : View). z .table q) g ∙ raise-other (eight-ary h) S (eight-ary h .depth (8 ^ h + a / 8)) (view-in m t′) t′ a c q (λ y. omega (arith, restored)) ∙ ap (λ (z : Table). z q) f
-
-    -- Evicting, without steps counted.
-    pub evict-root : lines-of h ≤ 8 ^ h + a / 8 → evict (eight-ary h) S v a ≡ evict-now (eight-ary h) S v a
-    unfolding evict evict-at
-    evict-root n =
-        let e : 8 ^ h + a / 8 ≡ lines-of h = omega (arith, L .parent-in a k) in
-        ap (λ r. evict-at (eight-ary h) S v r a) (ap (eight-ary h .depth) e ∙ L .depth-root)
-
-    pub evict-node : 8 ^ h + a / 8 < lines-of h → evict (eight-ary h) S v a ≡ cond (overdue (t (8 ^ h + a / 8))) (and-then (evict (eight-ary h) S v (8 ^ h + a / 8)) (λ u. evict-now (eight-ary h) S u a)) (evict-now (eight-ary h) S v a)
-    unfolding evict evict-at
-    evict-node n = ap (λ r. evict-at (eight-ary h) S v r a) (L .depth-parent (8 ^ h + a / 8) n) ∙ ap (λ b. cond b (and-then (evict-at (eight-ary h) S v (eight-ary h .depth (8 ^ h + (8 ^ h + a / 8) / 8)) (8 ^ h + a / 8)) (λ u. evict-now (eight-ary h) S u a)) (evict-now (eight-ary h) S v a)) (same (t (8 ^ h + a / 8)))
-      where
-        same : (o : Option Slot) → overdue o ≡ overdue o
-        same (some s) = refl
-        same none = refl
+        let g = went-view (commit-under (eight-ary h) S (memory-in (m .lines)) (register-in (m .register)) t′ a b c) m m″ t″ n n′ (subst (λ (z : Option Fault). Went (commit-under (eight-ary h) S (memory-in (m .lines)) (register-in (m .register)) t′ a b c) m z m″ t″ n n′) e w) in
+        ap (λ (z : View). z .table q) g ∙ raise-other (eight-ary h) S (eight-ary h .depth (8 ^ h + a / 8)) (view-in m t′) t′ a c q (λ y. omega (arith, up)) ∙ ap (λ (z : Table). z q) f
 
 pub overdue-dirty : (o : Option Slot) → true ≡ overdue o → is-dirty o ≡ true
 overdue-dirty (some s) e = refl
@@ -138,14 +105,14 @@ module _ (h : ℕ) (S : Scheme) (m : Meaning) (t : Table) (a : ℕ) (F : Fits h 
   evict-first n o =
       ap (λ x. and-then (evict (eight-ary h) S (view-in m t) x) (λ u. evict-now (eight-ary h) S u a)) q
       ∙ ap (λ b. cond b (and-then (evict (eight-ary h) S (view-in m t) (8 ^ h + a / 8)) (λ u. evict-now (eight-ary h) S u a)) (evict-now (eight-ary h) S (view-in m t) a)) (o ∙ ap (λ x. overdue (t x)) q)
-      ∙ sym (evict-node h S m t a F k (subst (λ x. x < lines-of h) q n))
+      ∙ sym (evict-under-node (eight-ary h) (eight-trees h (F .low) (F .high)) a S (view-in m t) (subst (λ x. x < lines-of h) q n))
 
   pub evict-only : (p < lines-of h → overdue (t p) ≡ false) → evict-now (eight-ary h) S (view-in m t) a ≡ evict (eight-ary h) S (view-in m t) a
   evict-only f = go (cases-lt p (lines-of h))
     where
       go : (p < lines-of h) ⊎ (lines-of h ≤ p) → evict-now (eight-ary h) S (view-in m t) a ≡ evict (eight-ary h) S (view-in m t) a
-      go (inl n) = ap (λ b. cond b (and-then (evict (eight-ary h) S (view-in m t) (8 ^ h + a / 8)) (λ u. evict-now (eight-ary h) S u a)) (evict-now (eight-ary h) S (view-in m t) a)) (sym (f n) ∙ ap (λ x. overdue (t x)) q) ∙ sym (evict-node h S m t a F k (subst (λ x. x < lines-of h) q n))
-      go (inr n) = sym (evict-root h S m t a F k (subst (λ x. lines-of h ≤ x) q n))
+      go (inl n) = ap (λ b. cond b (and-then (evict (eight-ary h) S (view-in m t) (8 ^ h + a / 8)) (λ u. evict-now (eight-ary h) S u a)) (evict-now (eight-ary h) S (view-in m t) a)) (sym (f n) ∙ ap (λ x. overdue (t x)) q) ∙ sym (evict-under-node (eight-ary h) (eight-trees h (F .low) (F .high)) a S (view-in m t) (subst (λ x. x < lines-of h) q n))
+      go (inr n) = sym (evict-under-root (eight-ary h) (eight-trees h (F .low) (F .high)) a S (view-in m t) (omega (arith, q, eight-trees h (F .low) (F .high) .parent-in a k)))
 
   module _ (t₁ : Table) (O : Left-slot (eight-ary h) p t none t₁) (j : p < lines-of h) where
     over : p < 8 ^ h + p / 8

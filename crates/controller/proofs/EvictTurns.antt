@@ -1,9 +1,9 @@
 -- Turns of evicting the lowest node.
-use Prim.Native.Nat.{ℕ, zero, suc, _+_, _-_, _/_, _^_, _≤_, _<_}
+use Prim.Native.Nat.{ℕ, zero, suc, _+_, _/_, _^_, _≤_, _<_}
 use mathlib.Core.Path.{_≡_, refl, sym, ap, _∙_}
 use mathlib.Core.Logic.{_⊎_, inl, inr}
-use mathlib.Core.Bool.{Bool, true, false, cond}
-use mathlib.Core.Option.{Option, some, none}
+use mathlib.Core.Bool.{false, cond}
+use mathlib.Core.Option.{none}
 use native.Mathlib.Omega.{arith}
 use lib.Dec.{leb}
 use Rattle.std.proofs.shelf.Tests.{le-leb, lt-leb, cases-lt, cases-eq, cases-order, both-ways}
@@ -22,7 +22,7 @@ use Rattle.machine.proofs.EightAry.{eight-trees}
 -- Nothing to do is done.
 pub went-stay : (m : Meaning) (t : Table) (n : ℕ) → Went (stay (view-in m t)) m none m t n n
 unfolding after-writes commits-in
-went-stay m t n = record { done = 0; cut = still (m .power); left-is = refl; says = refl; whole = λ _. refl; counted = omega arith; lost = λ x e c. absurd (none≢some e) }
+went-stay m t n = record { done = 0; cut = still (m .power); left-is = refl; says = refl; whole = λ _. refl; counted = omega arith; still = λ _. refl; lost = λ x e c. absurd (none≢some e) }
   where
     still : (p : Power) → Cut p 0 0 p
     still endless = refl

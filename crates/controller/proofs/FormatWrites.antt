@@ -7,7 +7,7 @@ use mathlib.Core.List.{List, [], _∷_, _++_}
 use mathlib.Core.Option.{Option, some, none}
 use native.Mathlib.Omega.{arith}
 use lib.Dec.{ltb, leb, eqb}
-use lib.ListN.{length, getD, set, take, drop, replicate}
+use lib.ListN.{length, getD, drop, replicate}
 use Rattle.std.proofs.shelf.Tests.{lt-ltb, le-ltb, le-leb, lt-leb, eq-eqb, ne-eqb, cases-lt, cases-eq}
 use native.Mathlib.Nat.{zero-div}
 use Rattle.std.proofs.shelf.Lists.{length-append, length-set}

@@ -1,8 +1,8 @@
 -- Tampering and recharging are events of a history.
 use Prim.Native.Nat.{ℕ}
-use mathlib.Core.Path.{_≡_, refl, sym, ap, _∙_}
+use mathlib.Core.Path.{_≡_, refl, ap, _∙_}
 use mathlib.Core.Bool.{Bool, true, false}
-use lib.ListN.{length, set, length-set}
+use lib.ListN.{length, length-set}
 use Rattle.std.specs.declared.option.Option.{Option as Maybe}
 use Rattle.std.specs.declared.option.Option.the-variants.{Some, None}
 use Rattle.board.specs.Meaning.{Meaning, Power}
@@ -12,8 +12,9 @@ use Rattle.suite.specs.Scheme.{Scheme}
 use Rattle.machine.specs.Layout.{eight-ary}
 use Rattle.machine.specs.Store.{Log, BoardState}
 use Rattle.machine.specs.Words.{line-in, register-in, memory-in, state-in}
-use Rattle.machine.specs.History.{World, Event, tamper, recharge, Answer, nothing, tampered, recharged, Fair, Step, Reached}
-use Rattle.machine.proofs.EightAry.{history-holds}
+use Rattle.machine.specs.History.{World, Event, tamper, recharge, Answer, nothing, tampered, Step}
+use Rattle.machine.proofs.EightAry.{eight-trees}
+use Rattle.machine.proofs.HistoryHolds.{keeps-promises}
 use Rattle.machine.proofs.ReachedFacts.{step-law}
 use Rattle.controller.specs.declared.types.Fault.{Fault}
 use Rattle.controller.specs.declared.chip.Chip.{Chip}
@@ -27,7 +28,7 @@ use Rattle.controller.proofs.Keeping.{keeps}
 keeps-fair : (S : Scheme) (w : World) (e : Event) (x : Answer) (w′ : World) → ((l : Log) → Step eight-ary S w l e x w′ l) → Keeps-fair S w e x w′
 keeps-fair S w e x w′ f l R q =
     let (y, R′) = step-law S R e x w′ l q (f l) in
-    (l, record { step = f l; law = y; reached = R′; once = history-holds S w′ l R′ .0 })
+    (l, record { step = f l; law = y; reached = R′; holds = keeps-promises eight-ary eight-trees S w′ l R′ })
 
 -- The board once a line was put in place.
 put-state : (m m′ : Meaning) (a : ℕ) (l : Stored) → LinePut m a l true m′ → state-in m′ ≡ tampered (state-in m) a (line-in l)

@@ -1,13 +1,12 @@
--- The register's words with a note and marks written into them.
-use Prim.Native.Nat.{ℕ, zero, suc, _+_, _-_, _≤_, _<_}
-use mathlib.Core.Path.{_≡_, refl, sym, ap, _∙_, subst}
-use mathlib.Core.List.{List, [], _∷_, _++_}
+-- The register's words with a dirty sum, a journal and a dirty map written into them.
+use Prim.Native.Nat.{ℕ, _+_, _≤_, _<_}
+use mathlib.Core.Path.{_≡_, sym, _∙_, subst}
+use mathlib.Core.List.{List}
 use native.Mathlib.Omega.{arith}
 use borrow.Author.Needs.{needs}
 use borrow.Rule.Slice.PartMut.{putMid}
 use lib.ListN.{length, getD, set, take, drop}
 use Rattle.std.proofs.shelf.Lists.{same-lists, places, length-set, getD-set-same, getD-set-other, length-take, length-drop, getD-take, getD-drop, getD-default}
-use Rattle.std.proofs.shelf.Parts.{overwrites}
 use Rattle.board.specs.declared.types.Line.{Line}
 use Rattle.controller.specs.Registers.{Journaled}
 
@@ -44,7 +43,7 @@ module _ (ws : List ℕ) (sum a : ℕ) (l : Line) (dirty : List ℕ) (n : length
     long-four : length r ≡ 32
     long-four = q .long ∙ long-three
 
-    -- a word below the note's line
+    -- a word below the journal's line
     low : (k : ℕ) → k < 13 → getD r k 0 ≡ getD (set (set ws 11 sum) 12 a) k 0
     low k h = q .below k (omega arith) ∙ getD-set-other two 21 k (l .tag) 0 (omega arith) ∙ p .below k h
 

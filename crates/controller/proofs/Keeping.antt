@@ -17,15 +17,16 @@ use Rattle.machine.specs.Store.{Log}
 use Rattle.machine.specs.Words.{row, register-in, state-in}
 use Rattle.machine.specs.Faults.{Fault as Why, fault, bad-size, too-few-lines, invalid-register, already-formatted}
 use Rattle.machine.specs.Plans.{Table, Run, read-call}
-use Rattle.machine.specs.History.{World, Event, format, read, write, flush, shut-down, Answer, nothing, refused, read-answer, format-check, Formatted, Fair, Step, Reached}
+use Rattle.machine.specs.History.{World, Event, format, read, write, flush, shut-down, Answer, nothing, read-answer, format-check, Formatted, Fair, Step, Reached}
 use Rattle.machine.proofs.Basics.{none≢some}
-use Rattle.machine.proofs.EightAry.{history-holds}
+use Rattle.machine.proofs.EightAry.{eight-trees}
+use Rattle.machine.proofs.HistoryHolds.{keeps-promises}
 use Rattle.machine.proofs.ReachedFacts.{open-facts, step-law}
 use Rattle.controller.specs.declared.types.Fault.{Fault}
 use Rattle.controller.specs.declared.chip.Chip.{Chip}
 use Rattle.tree.specs.SlotTable.{table-in}
-use Rattle.controller.specs.Views.{fault-of, view-in, Fits}
-use Rattle.controller.specs.Worlds.{chip-by, world-by, world-in, cold-in, Keeps, call-check, Runs-as, Does, write-plan, flush-plan, read-by, read-of, Formats-as, Formats}
+use Rattle.controller.specs.Views.{view-in}
+use Rattle.controller.specs.Worlds.{world-by, world-in, cold-in, Keeps, Keeps-latched, call-check, Runs-as, Does, write-plan, flush-plan, read-by, read-of, Formats-as, Formats}
 use Rattle.controller.proofs.SlotFacts.{first-slot}
 
 -- An event that happened, in every history that came here, goes on.
@@ -33,7 +34,7 @@ pub keeps : (S : Scheme) (w : World) (e : Event) (x : Answer) (w′ : World) →
 keeps S w e x w′ f l R =
     let (l′, q, s) = f l R in
     let (y, R′) = step-law S R e x w′ l′ q s in
-    (l′, record { step = s; law = y; reached = R′; once = history-holds S w′ l′ R′ .0 })
+    (l′, record { step = s; law = y; reached = R′; holds = keeps-promises eight-ary eight-trees S w′ l′ R′ })
 
 -- The check before the steps passes.
 pub check-ok : (m : Meaning) (lv n : ℕ) → 1 ≤ row (m .register) 1 → row (m .register) 1 ≤ 4 → lines-of (row (m .register) 1) ≤ length (m .lines) → (0 < n → row (m .register) 1 ≡ lv) → call-check m lv n ≡ none
@@ -95,7 +96,7 @@ module _ (S : Scheme) (m : Meaning) (c : Chip) where
       kept (Some f) (ex, em, ew) = keeps S (world-by m (Some f) (c .capacity) (table-in (c .slots))) (write a b) x (world-in m′ c′) (λ l R. (l, tt, (ex, ew, refl)))
       kept None D =
           keeps S (world-by m None (c .capacity) (table-in (c .slots))) (write a b) x (world-in m′ c′)
-          (λ l R. let q = subst (λ (o : Option Why). Runs-as None o m (c .capacity) (table-in (c .slots)) (write-plan S m c a b) x m′ (world-in m′ c′)) (check-passes l R) D l in (q .0, tt, q .1))
+          (λ l R. let q = subst (λ (o : Option Why). Runs-as None o m (c .capacity) (table-in (c .slots)) (write-plan S m c a b) x m′ (world-in m′ c′)) (check-passes l R) D .0 l in (q .0, tt, q .1))
 
   -- A flush.
   pub flush-kept : (x : Answer) (m′ : Meaning) (c′ : Chip) → Does (flush-plan S m c) m c x m′ c′ → Keeps S (world-in m c) flush x (world-in m′ c′)
@@ -106,7 +107,23 @@ module _ (S : Scheme) (m : Meaning) (c : Chip) where
       kept (Some f) (ex, em, ew) = keeps S (world-by m (Some f) (c .capacity) (table-in (c .slots))) flush x (world-in m′ c′) (λ l R. (l, tt, (ex, ew, refl)))
       kept None D =
           keeps S (world-by m None (c .capacity) (table-in (c .slots))) flush x (world-in m′ c′)
-          (λ l R. let q = subst (λ (o : Option Why). Runs-as None o m (c .capacity) (table-in (c .slots)) (flush-plan S m c) x m′ (world-in m′ c′)) (check-passes l R) D l in (q .0, tt, q .1))
+          (λ l R. let q = subst (λ (o : Option Why). Runs-as None o m (c .capacity) (table-in (c .slots)) (flush-plan S m c) x m′ (world-in m′ c′)) (check-passes l R) D .0 l in (q .0, tt, q .1))
+
+  -- A call under a latched fault, whatever the suite and the plan.
+  pub write-latched : (r : Run) (a : ℕ) (b : Body) (x : Answer) (m′ : Meaning) (c′ : Chip) → Does r m c x m′ c′ → Keeps-latched (c .latched) (world-in m c) (write a b) x (world-in m′ c′)
+  write-latched r a b x m′ c′ D f e K =
+      let (ex, em, ew) = subst (λ (s : Maybe Fault). Runs-as s (call-check m (c .slots .layout .levels) (c .slots .used)) m (c .capacity) (table-in (c .slots)) r x m′ (world-in m′ c′)) e D in
+      subst (λ (s : Maybe Fault). Keeps K (world-by m s (c .capacity) (table-in (c .slots))) (write a b) x (world-in m′ c′)) (sym e) (keeps K (world-by m (Some f) (c .capacity) (table-in (c .slots))) (write a b) x (world-in m′ c′) (λ l R. (l, tt, (ex, ew, refl))))
+
+  pub flush-latched : (r : Run) (x : Answer) (m′ : Meaning) (c′ : Chip) → Does r m c x m′ c′ → Keeps-latched (c .latched) (world-in m c) flush x (world-in m′ c′)
+  flush-latched r x m′ c′ D f e K =
+      let (ex, em, ew) = subst (λ (s : Maybe Fault). Runs-as s (call-check m (c .slots .layout .levels) (c .slots .used)) m (c .capacity) (table-in (c .slots)) r x m′ (world-in m′ c′)) e D in
+      subst (λ (s : Maybe Fault). Keeps K (world-by m s (c .capacity) (table-in (c .slots))) flush x (world-in m′ c′)) (sym e) (keeps K (world-by m (Some f) (c .capacity) (table-in (c .slots))) flush x (world-in m′ c′) (λ l R. (l, tt, (ex, ew, refl))))
+
+  pub read-latched : (a : ℕ) (x : Answer) → x ≡ read-of S m c a → Keeps-latched (c .latched) (world-in m c) (read a) x (world-in m c)
+  read-latched a x d f e K =
+      subst (λ (s : Maybe Fault). Keeps K (world-by m s (c .capacity) (table-in (c .slots))) (read a) x (world-by m s (c .capacity) (table-in (c .slots)))) (sym e)
+      (keeps K (world-by m (Some f) (c .capacity) (table-in (c .slots))) (read a) x (world-by m (Some f) (c .capacity) (table-in (c .slots))) (λ l R. (l, tt, (d ∙ ap (λ (s : Maybe Fault). read-by s (call-check m (c .slots .layout .levels) (c .slots .used)) (read-answer (read-call (eight-ary (row (m .register) 1)) S (view-in m (table-in (c .slots))) a))) e, refl, refl))))
 
   -- A read.
   pub read-kept : (a : ℕ) (x : Answer) → x ≡ read-of S m c a → Keeps S (world-in m c) (read a) x (world-in m c)

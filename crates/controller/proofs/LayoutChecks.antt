@@ -7,7 +7,7 @@ use mathlib.Core.Option.{Option, some, none}
 use native.Mathlib.Omega.{arith}
 use lib.Dec.{leb, eqb}
 use lib.ListN.{length}
-use Rattle.std.proofs.shelf.Tests.{le-leb, lt-leb, eq-eqb, ne-eqb, cases-lt}
+use Rattle.std.proofs.shelf.Tests.{le-leb, lt-leb, ne-eqb, cases-lt}
 use Rattle.board.specs.Meaning.{Meaning}
 use Rattle.machine.specs.Layout.{lines-of}
 use Rattle.machine.specs.Words.{row}

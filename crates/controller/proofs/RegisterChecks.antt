@@ -10,7 +10,7 @@ use lib.Dec.{leb, eqb}
 use lib.ListN.{length}
 use Rattle.std.proofs.shelf.Tests.{le-leb, lt-leb, le-ltb, eq-eqb, ne-eqb, and-parts, and-from, and-left, and-right, leb-true, eqb-true}
 use Rattle.board.specs.Meaning.{Meaning}
-use Rattle.machine.specs.Layout.{eight-ary, lines-of, sum-to, every}
+use Rattle.machine.specs.Layout.{eight-ary, lines-of, sum-to}
 use Rattle.machine.specs.Store.{Register}
 use Rattle.machine.specs.Words.{bit, register-in, state-in}
 use Rattle.machine.specs.Faults.{Fault, fault, bad-size, too-few-lines, invalid-register, other-suite, too-many-dirty}

@@ -12,38 +12,39 @@ use Rattle.machine.specs.Layout.{eight-ary}
 use Rattle.machine.specs.Store.{Log}
 use Rattle.board.specs.declared.types.Line.{Line as Stored}
 use Rattle.machine.specs.Words.{line-in}
-use Rattle.machine.specs.History.{World, tamper, Answer, nothing, Fair, Reached}
+use Rattle.machine.specs.History.{World, tamper, Answer, nothing, Reached}
 use Rattle.machine.specs.History.{Event as Happening}
-use Rattle.machine.specs.Laws.{No-reuse}
+use Rattle.machine.proofs.EightAry.{eight-trees}
+use Rattle.machine.proofs.HistoryHolds.{keeps-promises}
 use Rattle.controller.specs.declared.chip.Chip.{Chip}
 use Rattle.controller.specs.declared.event.Event.{Event}
 use Rattle.controller.specs.declared.event.Event.the-variants.{Tamper}
 use Rattle.controller.specs.declared.event.Reply.{Reply}
 use Rattle.controller.specs.declared.event.Reply.the-variants.{Put}
-use Rattle.controller.specs.Worlds.{Goes-on, Keeps}
+use Rattle.controller.specs.Worlds.{Keeps}
 use Rattle.controller.specs.Outside.{Keeps-fair, Tampers}
 use Rattle.controller.specs.Scripts.{Trace, Goes-through, Keeps-through, Traces, Plays-one, Does-one, All-traces, Plays, Does-all}
 
 module _ (S : Scheme) where
   -- Nothing happened.
   pub through-none : (w : World) → Keeps-through S w [] w
-  through-none w l R o = (refl, R, o)
+  through-none w l R = (refl, R, keeps-promises eight-ary eight-trees S w l R)
 
   -- One event that its premise allows.
   pub through-fair : (w : World) (e : Happening) (x : Answer) (w′ : World) → Keeps-fair S w e x w′ → Keeps-through S w ((e, x) ∷ []) w′
-  through-fair w e x w′ k l R o = (w′, λ f. let (l₁, g) = k l R f in (l₁, g, (refl, g .reached, g .once)))
+  through-fair w e x w′ k l R = (w′, λ f. let (l₁, g) = k l R f in (l₁, g, (refl, g .reached, g .holds)))
 
   -- One event.
   pub through-one : (w : World) (e : Happening) (x : Answer) (w′ : World) → Keeps S w e x w′ → Keeps-through S w ((e, x) ∷ []) w′
   through-one w e x w′ k = through-fair w e x w′ (λ l R f. k l R)
 
   joins : (w : World) (l : Log) (t u : Trace) (w₁ w₂ : World) → Goes-through S w l t w₁ → Keeps-through S w₁ u w₂ → Goes-through S w l (t ++ u) w₂
-  joins w l [] u w₁ w₂ (e, R, o) k = subst (λ (v : World). Reached eight-ary S v l → Goes-through S v l u w₂) e (λ R₁. k l R₁ o) R
+  joins w l [] u w₁ w₂ (e, R, o) k = subst (λ (v : World). Reached eight-ary S v l → Goes-through S v l u w₂) e (λ R₁. k l R₁) R
   joins w l (p ∷ t) u w₁ w₂ (v, f) k = (v, λ q. let (l₁, g, r) = f q in (l₁, g, joins v l₁ t u w₁ w₂ r k))
 
   -- One trace, then another.
   pub through-then : (w w₁ w₂ : World) (t u : Trace) → Keeps-through S w t w₁ → Keeps-through S w₁ u w₂ → Keeps-through S w (t ++ u) w₂
-  through-then w w₁ w₂ t u a b l R o = joins w l t u w₁ w₂ (a l R o) b
+  through-then w w₁ w₂ t u a b l R = joins w l t u w₁ w₂ (a l R) b
 
   -- No event was played.
   pub plays-none : (cap : ℕ) (w : World) → Plays S cap w [] [] w
@@ -76,7 +77,7 @@ module _ (S : Scheme) where
   -- A line put in place from outside, or one without a place.
   pub puts-one : (cap : ℕ) (w w′ : World) (a : ℕ) (l : Stored) (b : Bool) → Tampers S w a (line-in l) b w′ → Plays-one S cap w (Tamper a l) (Put b) w′
   puts-one cap w w′ a l true k = (_, refl, through-fair w (tamper a (line-in l)) nothing w′ k)
-  puts-one cap w w′ a l false k = ([], refl, λ m R o. (k, R, o))
+  puts-one cap w w′ a l false k = ([], refl, λ m R. (k, R, keeps-promises eight-ary eight-trees S w m R))
 
   -- One event as a trace, with its answer said in another way.
   pub one-event : (w : World) (e : Happening) (x y : Answer) (w′ : World) → Keeps S w e x w′ → y ≡ x → Keeps-through S w ((e, y) ∷ []) w′

@@ -1,12 +1,12 @@
 -- Two writes in a row, cut by power anywhere.
-use Prim.Native.Nat.{ℕ, zero, suc, _+_, _≤_, _<_}
+use Prim.Native.Nat.{ℕ, _+_, _<_}
 use mathlib.Core.Path.{_≡_, refl, sym, ap, _∙_, subst, fun-ext}
 use mathlib.Core.Logic.{_⊎_, inl, inr}
-use mathlib.Core.Bool.{Bool, true, false, cond}
-use mathlib.Core.List.{List, [], _∷_, _++_}
-use mathlib.Core.Option.{Option, some, none}
+use mathlib.Core.Bool.{cond}
+use mathlib.Core.List.{List, [], _∷_}
+use mathlib.Core.Option.{some, none}
 use native.Mathlib.Omega.{arith}
-use lib.Dec.{eqb, ltb}
+use lib.Dec.{eqb}
 use lib.ListN.{length, getD, set}
 use Rattle.std.proofs.shelf.Tests.{eq-eqb, ne-eqb, cases-eq}
 use Rattle.std.proofs.shelf.Lists.{getD-set-same, getD-set-other, length-set}
@@ -21,7 +21,7 @@ use Rattle.machine.specs.Plans.{Table, Run}
 use Rattle.controller.specs.Runs.{Went}
 use Rattle.machine.proofs.Basics.{none≢some}
 use Rattle.board.specs.declared.types.Line.{Line}
-use Rattle.board.specs.declared.types.BoardFault.the-variants.{Absent, PowerLost}
+use Rattle.board.specs.declared.types.BoardFault.the-variants.{PowerLost}
 use Rattle.std.specs.declared.result.Result.the-variants.{Ok, Err}
 
 pub mem-set : (ls : List Line) (a : ℕ) (l : Line) → a < length ls → memory-in (set ls a l) ≡ update (memory-in ls) a (line-in l)
@@ -88,6 +88,7 @@ module _ (m : Meaning) (a : ℕ) (es : Log) (ws : List ℕ) (R : Register) (l : 
         says = refl;
         whole = λ e. absurd (omega arith);
         counted = omega arith;
+        still = λ _. ap (λ (x : Meaning). x .register) (r .1);
         lost = λ x f g. omega arith;
       }
 
@@ -101,6 +102,7 @@ module _ (m : Meaning) (a : ℕ) (es : Log) (ws : List ℕ) (R : Register) (l : 
         says = refl;
         whole = λ e. absurd (omega arith);
         counted = omega arith;
+        still = λ e. absurd (omega arith);
         lost = λ x f g. omega arith;
       }
 
@@ -117,5 +119,6 @@ module _ (m : Meaning) (a : ℕ) (es : Log) (ws : List ℕ) (R : Register) (l : 
         says = refl;
         whole = λ e i. record { memory = memory i; register = register i; table = t };
         counted = refl;
+        still = λ e. absurd (omega arith);
         lost = λ x f g. absurd (none≢some f);
       }

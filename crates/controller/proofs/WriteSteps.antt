@@ -1,13 +1,11 @@
 -- Room for a write, and its commit.
-use Prim.Native.Nat.{ℕ, zero, suc, _+_, _-_, _*_, _/_, _%_, _^_, _≤_, _<_}
+use Prim.Native.Nat.{ℕ, zero, suc, _+_, _-_, _/_, _^_, _≤_, _<_}
 use mathlib.Core.Path.{_≡_, refl, sym, ap, _∙_, subst}
 use mathlib.Core.Logic.{_⊎_, inl, inr}
 use mathlib.Core.Bool.{Bool, true, false, cond}
-use mathlib.Core.List.{List, [], _∷_}
 use mathlib.Core.Option.{Option, some, none}
 use native.Mathlib.Omega.{arith}
-use lib.Dec.{ltb, leb, eqb}
-use lib.ListN.{length}
+use lib.Dec.{eqb}
 use Rattle.std.proofs.shelf.Tests.{lt-ltb, le-ltb, leb-false, cases-lt, both-ways, eq-eqb}
 use Rattle.suite.specs.Scheme.{Body, Scheme}
 use Rattle.board.specs.Meaning.{Meaning}
@@ -58,17 +56,13 @@ module _ (h : ℕ) (S : Scheme) (m : Meaning) (t : Table) (a : ℕ) where
             ap (λ z. and-then (cond z (and-then (evict-overdue (eight-ary h) S v (8 ^ h + a / 8)) (λ u. make-room (eight-ary h) S cap (8 ^ h + a / 8) u (u .table (8 ^ h + a / 8)))) (stay v)) (λ u. commit (eight-ary h) S u (u .table) a b)) (le-ltb (8 ^ h + a / 8) (lines-of h) n)
             ∙ sym (ap (λ r. write-at (eight-ary h) S r cap v a b) (ap (eight-ary h .depth) e ∙ L .depth-root))
 
-  same-overdue : (o : Option Slot) → overdue o ≡ overdue o
-  same-overdue (some s) = refl
-  same-overdue none = refl
-
   pub overdue-evicts : true ≡ overdue (t a) → evict (eight-ary h) S v a ≡ evict-overdue (eight-ary h) S v a
-  overdue-evicts e = sym (ap (λ b. cond b (evict (eight-ary h) S v a) (stay v)) (same-overdue (t a) ∙ sym e))
+  overdue-evicts e = sym (ap (λ b. cond b (evict (eight-ary h) S v a) (stay v)) (sym e))
 
   pub overdue-stays : false ≡ overdue (t a) → stay v ≡ evict-overdue (eight-ary h) S v a
-  overdue-stays e = sym (ap (λ b. cond b (evict (eight-ary h) S v a) (stay v)) (same-overdue (t a) ∙ sym e))
+  overdue-stays e = sym (ap (λ b. cond b (evict (eight-ary h) S v a) (stay v)) (sym e))
 
-  -- Put out, it is not overdue.
+  -- Evicted, it is not overdue.
   pub left-rested : Fits h m → a < lines-of h → (o : Option Fault) (t′ : Table) → Left-slot (eight-ary h) a t o t′ → o ≡ none → overdue (t′ a) ≡ false
   left-rested F k o t′ O e = ap overdue (O e a (eight-trees h (F .low) (F .high) .parent-above a k) ∙ here (eqb a a) (eq-eqb a a refl))
     where
@@ -76,7 +70,7 @@ module _ (h : ℕ) (S : Scheme) (m : Meaning) (t : Table) (a : ℕ) where
       here true f = refl
       here false f = absurd (both-ways false refl f)
 
--- The steps of formatting room.
+-- The steps of making room.
 module _ (h : ℕ) (S : Scheme) (cap : ℕ) (m : Meaning) (t : Table) (a p : ℕ) (q : p ≡ 8 ^ h + a / 8) where
   pub before-root : lines-of h ≤ p → stay (view-in m t) ≡ before-commit (eight-ary h) S cap (view-in m t) a
   before-root n = sym (ap (λ z. cond z (and-then (evict-overdue (eight-ary h) S (view-in m t) (8 ^ h + a / 8)) (λ u. make-room (eight-ary h) S cap (8 ^ h + a / 8) u (u .table (8 ^ h + a / 8)))) (stay (view-in m t))) (le-ltb (8 ^ h + a / 8) (lines-of h) (subst (λ x. lines-of h ≤ x) q n)))

@@ -1,5 +1,5 @@
 -- Bring-up: the checks before any write, the journal's line written back, and how the call ends.
-use Prim.Native.Nat.{ℕ, _≤_, _<_}
+use Prim.Native.Nat.{ℕ, _≤_}
 use mathlib.Core.Path.{_≡_}
 use mathlib.Core.Bool.{true}
 use mathlib.Core.Option.{Option, some, none}

@@ -1,7 +1,7 @@
 -- What came of a planned run of writes on a board, while power lasted.
 use Prim.Native.Nat.{ℕ, _+_, _<_}
 use mathlib.Core.Path.{_≡_}
-use mathlib.Core.Bool.{Bool, cond}
+use mathlib.Core.Bool.{cond}
 use mathlib.Core.List.{List}
 use mathlib.Core.Option.{Option, some, none}
 use lib.Dec.{ltb}
@@ -36,6 +36,7 @@ pub record Went (r : Run) (m : Meaning) (o : Option Fault) (m′ : Meaning) (t�
   pub says : o ≡ ends-after r done
   pub whole : done ≡ length (r .planned) → view-in m′ t′ ≡ r .view
   pub counted : n′ ≡ n + commits-in done (r .planned)
+  pub still : commits-in done (r .planned) ≡ 0 → m′ .register ≡ m .register
   pub lost : (x : Fault) → o ≡ some x → x .cause ≡ power-lost → done < length (r .planned)
 
 -- The writes ws were made on board m until power was lost or all were done: they ended in fault o, if any, and left m′.

@@ -3,7 +3,6 @@ use Prim.Native.Nat.{ℕ}
 use mathlib.Core.Path.{_≡_}
 use mathlib.Core.Bool.{Bool, true, false}
 use mathlib.Core.List.{List, [], _∷_, _++_}
-use Rattle.std.specs.declared.option.Option.{Option as Maybe}
 use Rattle.board.specs.Meaning.{Meaning, Power, lesser}
 use Rattle.board.specs.Tampering.{LinePut, Recharged}
 use Rattle.suite.specs.Scheme.{Scheme}
@@ -12,7 +11,7 @@ use Rattle.machine.specs.Store.{Log}
 use Rattle.machine.specs.Words.{row, line-in}
 use Rattle.machine.specs.History.{World, bring-up, read, write, flush, shut-down, tamper, recharge, Answer, nothing, body-is, done, refused, Fair, Reached}
 use Rattle.machine.specs.History.{Event as Happening}
-use Rattle.machine.specs.Laws.{No-reuse}
+use Rattle.machine.specs.Promises.{Promises}
 use Rattle.controller.specs.declared.event.Event.{Event}
 use Rattle.controller.specs.declared.event.Event.the-variants.{Read, Write, Flush, Restart, Recharge, Tamper}
 use Rattle.controller.specs.declared.event.Reply.{Reply}
@@ -28,13 +27,13 @@ Trace = List (Happening × Answer)
 
 -- In a history that came to world w with log l, the trace goes on to w′: each event that the history's premise allows obeys its law, and so does all that follows it.
 abbrev pub Goes-through : Scheme → World → Log → Trace → World → Type 0
-Goes-through S w l [] w′ = (w′ ≡ w) × Reached eight-ary S w l × No-reuse l
+Goes-through S w l [] w′ = (w′ ≡ w) × Reached eight-ary S w l × Promises eight-ary S w l
 Goes-through S w l (p ∷ t) w′ =
     (w₁ : World) × (Fair eight-ary S w l (p .0) → (l₁ : Log) × Goes-on S w l (p .0) (p .1) w₁ l₁ × Goes-through S w₁ l₁ t w′)
 
 -- In every history that came to world w, the trace goes on to w′.
 abbrev pub Keeps-through : Scheme → World → Trace → World → Type 0
-Keeps-through S w t w′ = (l : Log) → Reached eight-ary S w l → No-reuse l → Goes-through S w l t w′
+Keeps-through S w t w′ = (l : Log) → Reached eight-ary S w l → Goes-through S w l t w′
 
 -- A reply as an answer.
 abbrev pub answer-in : Reply → Answer

@@ -3,12 +3,13 @@ use Prim.Native.Nat.{ℕ, _≤_, _<_}
 use mathlib.Core.Path.{_≡_}
 use mathlib.Core.Bool.{Bool, _&&_}
 use mathlib.Core.List.{List}
-use mathlib.Core.Option.{Option, some, none}
 use lib.ListN.{length, getD}
 use Rattle.board.specs.Meaning.{Meaning}
 use Rattle.board.specs.declared.types.Line.{Line as Stored}
 use Rattle.board.specs.declared.types.BoardFault.{BoardFault}
 use Rattle.board.specs.declared.types.BoardFault.the-variants.{Absent, PowerLost}
+use Rattle.std.specs.declared.option.Option.{Option as Maybe}
+use Rattle.std.specs.declared.option.Option.the-variants.{Some, None}
 use Rattle.std.specs.declared.result.Result.{Result}
 use Rattle.std.specs.declared.result.Result.the-variants.{Ok, Err}
 use Rattle.suite.specs.Scheme.{Body, Line, Scheme, right}
@@ -72,6 +73,11 @@ outcome-in (Err f) = err (tree-fault f)
 abbrev pub body-in : Result (List ℕ) TreeFault → Outcome Body
 body-in (Ok ws) = ok (row ws)
 body-in (Err f) = err (tree-fault f)
+
+-- What opening line a gave: a body, or that the line is corrupt.
+abbrev pub Opened : Maybe (List ℕ) → ℕ → Result (List ℕ) TreeFault → Type 0
+Opened (Some ws) a r = r ≡ Ok ws
+Opened None a r = r ≡ Err (Corrupt a)
 
 -- What a call on this board with these slots works on.
 abbrev pub view-in : Meaning → Table → View

@@ -1,13 +1,12 @@
 -- Boards and chips as points of a history, and what the calls keep and do.
-use Prim.Native.Nat.{ℕ, _≤_, _<_}
+use Prim.Native.Nat.{ℕ, _<_}
 use mathlib.Core.Path.{_≡_}
-use mathlib.Core.Bool.{Bool, cond, _&&_, _||_}
+use mathlib.Core.Bool.{cond, _&&_, _||_}
 use mathlib.Core.List.{List}
 use mathlib.Core.Option.{Option, some, none}
 use lib.Dec.{leb, eqb}
 use lib.ListN.{length, replicate}
 use Rattle.board.specs.Meaning.{Meaning}
-use Rattle.board.specs.declared.types.BoardFault.{BoardFault}
 use Rattle.board.specs.declared.types.BoardFault.the-variants.{Absent, PowerLost}
 use Rattle.std.specs.declared.result.Result.{Result}
 use Rattle.std.specs.declared.result.Result.the-variants.{Ok, Err}
@@ -20,16 +19,15 @@ use Rattle.machine.specs.Words.{row, state-in}
 use Rattle.machine.specs.Faults.{fault, too-few-lines, invalid-register}
 use Rattle.machine.specs.Faults.{Fault as Why}
 use Rattle.machine.specs.Plans.{Table, Run, read-call, write-call, flush-call}
-use Rattle.machine.specs.History.{cold, opened, latched, World, Event, Answer, body-is, done, refused, read-answer, format-check, Ran, Formatted, Step, Reached}
+use Rattle.machine.specs.History.{cold, opened, latched, World, Event, Answer, nothing, body-is, done, refused, read-answer, format-check, Ran, Formatted, Step, Reached}
 use Rattle.machine.specs.History.{Chip as ChipState}
-use Rattle.machine.specs.Laws.{No-reuse}
-use Rattle.machine.specs.Promises.{Law}
+use Rattle.machine.specs.Promises.{Law, Promises}
 use Rattle.tree.specs.SlotTable.{table-in}
 use Rattle.tree.specs.declared.types.Layout.{Layout}
 use Rattle.controller.specs.declared.types.TreeFault.{TreeFault}
 use Rattle.controller.specs.declared.types.TreeFault.the-variants.{Board, Corrupt, AtLimit, SumMismatch}
 use Rattle.controller.specs.declared.types.Fault.{Fault}
-use Rattle.controller.specs.declared.types.Fault.the-variants.{Tree, NotData, BadLevels, BadSlots, TooFewLines, InvalidRegister, AlreadyFormatted, OtherSuite, TooManyDirty}
+use Rattle.controller.specs.declared.types.Fault.the-variants.{Tree}
 use Rattle.controller.specs.declared.types.Report.{Report}
 use Rattle.controller.specs.declared.chip.Chip.{Chip}
 use Rattle.controller.specs.Views.{fault-of, view-in, Fits}
@@ -71,16 +69,20 @@ report-by (Err f) n = refused (fault-of f) n
 abbrev pub report-in : Report → Answer
 report-in r = report-by (r .outcome) (r .commits)
 
--- One event of a history: it happened as the definitions say, it obeys its law, and what it left is reached, with no counter used twice.
+-- One event of a history: it happened as the definitions say, it obeys its law, and what it left is reached and holds what is promised at every point: no counter used twice, the register and the slots as the log says.
 pub record Goes-on (S : Scheme) (w : World) (l : Log) (e : Event) (x : Answer) (w′ : World) (l′ : Log) : Type 0 where
   pub step : Step eight-ary S w l e x w′ l′
   pub law : Law eight-ary S w l (w .chip) e x w′ l′
   pub reached : Reached eight-ary S w′ l′
-  pub once : No-reuse l′
+  pub holds : Promises eight-ary S w′ l′
 
 -- In every history that came to world w, event e with answer x goes on to w′.
 abbrev pub Keeps : Scheme → World → Event → Answer → World → Type 0
 Keeps S w e x w′ = (l : Log) → Reached eight-ary S w l → (l′ : Log) × Goes-on S w l e x w′ l′
+
+-- The same in every history of the board, under whatever suite, where a fault is latched: so it is in that of a board that was brought up under another suite's number.
+abbrev pub Keeps-latched : Maybe Fault → World → Event → Answer → World → Type 0
+Keeps-latched s w e x w′ = (f : Fault) → s ≡ Some f → (K : Scheme) → Keeps K w e x w′
 
 -- A refusal leaves zeros.
 abbrev pub Cleared : Result (Unit {0}) Fault → List ℕ → Type 0
@@ -109,11 +111,18 @@ abbrev pub Layout-found : Meaning → ℕ → ℕ → Result Layout Fault → Ty
 Layout-found m lv n (Ok l) = (call-check m lv n ≡ none) × Fits (l .levels) m × (0 < n → l .levels ≡ lv)
 Layout-found m lv n (Err f) = call-check m lv n ≡ some (fault-of f)
 
--- A call on board m planned as run r: the latched fault, one before its steps, or what the run does while power lasts.
+-- The commits that an answer reports.
+abbrev pub commits-of : Answer → ℕ
+commits-of nothing = 0
+commits-of (body-is b) = 0
+commits-of (done n) = n
+commits-of (refused r n) = n
+
+-- A call on board m planned as run r: the latched fault, one before its steps, or what the run does while power lasts. Without a commit the register keeps its words.
 abbrev pub Runs-as : Maybe Fault → Option Why → Meaning → ℕ → Table → Run → Answer → Meaning → World → Type 0
 Runs-as (Some f) o m n t r x m′ w′ = (x ≡ refused (fault-of f) 0) × (m′ ≡ m) × (w′ ≡ world-by m (Some f) n t)
 Runs-as None (some y) m n t r x m′ w′ = (x ≡ refused y 0) × (m′ ≡ m) × (w′ ≡ world-by m None n t)
-Runs-as None none m n t r x m′ w′ = (l : Log) → (l′ : Log) × Ran n r (state-in m) l x w′ l′
+Runs-as None none m n t r x m′ w′ = ((l : Log) → (l′ : Log) × Ran n r (state-in m) l x w′ l′) × (commits-of x ≡ 0 → m′ .register ≡ m .register)
 
 -- What a call planned as run r does on any board and chip, in a history or not.
 abbrev pub Does : Run → Meaning → Chip → Answer → Meaning → Chip → Type 0

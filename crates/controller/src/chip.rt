@@ -6,11 +6,11 @@ use tree::types::Slots;
 #[derive(Drop)]
 pub struct Chip {
     // the dirty nodes
-    pub slots: Slots,
+    pub(crate) slots: Slots,
     // how many slots there are
-    pub capacity: usize,
+    pub(crate) capacity: usize,
     // the fault that every call answers but shut-down
-    pub latched: Option<Fault>,
+    pub(crate) latched: Option<Fault>,
     ghost some: { 1 ≤ capacity },
     ghost most: { capacity ≤ 64 },
 }

@@ -1,6 +1,5 @@
 ghost use mathlib.Core.Path.{_≡_};
-ghost use Prim.Native.Nat.{ℕ, _+_, _<_, _≤_};
-ghost use lib.ListN.{length};
+ghost use Prim.Native.Nat.{_+_, _<_, _≤_};
 ghost use Rattle.machine.specs.Layout.{counter-limit};
 ghost use Rattle.machine.specs.Store.{line-at};
 ghost use Rattle.machine.specs.Words.{row, line-in, memory-in, register-in};
@@ -9,7 +8,7 @@ ghost use Rattle.tree.specs.Layouts.{shape-in};
 ghost use Rattle.tree.specs.SlotTable.{table-in};
 ghost use Rattle.controller.specs.Views.{view-in, Fits};
 ghost use Rattle.controller.specs.Runs.{ended, Went};
-ghost use Rattle.controller.specs.Registers.{Journaled, root-words, raised-slots, Room-at, Small-at, Register-raised};
+ghost use Rattle.controller.specs.Registers.{Journaled, raised-slots, Room-at, Small-at, Register-raised};
 use crate::counters::counter_of;
 use crate::faults::TreeFromLine;
 use crate::faults::at_line;

@@ -1,5 +1,5 @@
 ghost use mathlib.Core.Path.{_≡_};
-ghost use Prim.Native.Nat.{ℕ, _<_};
+ghost use Prim.Native.Nat.{_<_};
 ghost use Rattle.machine.specs.Plans.{counter-of};
 ghost use Rattle.machine.specs.Words.{line-in};
 ghost use Rattle.tree.specs.Layouts.{shape-in};

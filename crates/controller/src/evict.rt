@@ -1,6 +1,6 @@
 ghost use mathlib.Core.Path.{_≡_};
 ghost use mathlib.Core.Bool.{true, false};
-ghost use Prim.Native.Nat.{ℕ, _+_, _-_, _<_, _≤_};
+ghost use Prim.Native.Nat.{_+_, _-_, _<_, _≤_};
 ghost use Rattle.machine.specs.Plans.{is-dirty, overdue, evict-now, evict as evicting, evict-until};
 ghost use Rattle.tree.specs.Layouts.{shape-in};
 ghost use Rattle.tree.specs.SlotTable.{table-in};

@@ -3,7 +3,6 @@ ghost use Prim.Native.Nat.{_<_};
 ghost use Rattle.tree.specs.SlotTable.{table-in};
 ghost use Rattle.controller.specs.Worlds.{latch-of};
 use crate::types::Fault;
-use crate::types::LineFault;
 use crate::types::TreeFault;
 use board::types::BoardFault;
 use tree::types::Layout;

@@ -1,12 +1,13 @@
 ghost use mathlib.Core.Path.{_≡_};
-ghost use Prim.Native.Nat.{ℕ, _<_};
+ghost use Prim.Native.Nat.{_<_};
+ghost use Rattle.suite.specs.Scheme.{Scheme};
 ghost use Rattle.machine.specs.Words.{row};
 ghost use Rattle.machine.specs.Plans.{read-call};
 ghost use Rattle.machine.specs.History.{read as reading, write as writing, flush as flushing, shut-down, nothing};
 ghost use Rattle.tree.specs.Layouts.{shape-in};
 ghost use Rattle.tree.specs.SlotTable.{table-in};
-ghost use Rattle.controller.specs.Views.{view-in, body-in, Fits};
-ghost use Rattle.controller.specs.Worlds.{world-in, cold-in, body-answer, read-in, report-by, report-in, Keeps, Cleared, Layout-found, Does, write-plan, flush-plan, read-of};
+ghost use Rattle.controller.specs.Views.{view-in, body-in, Fits, Opened};
+ghost use Rattle.controller.specs.Worlds.{world-in, cold-in, body-answer, read-in, report-by, report-in, Keeps, Keeps-latched, Cleared, Layout-found, Does, write-plan, flush-plan, read-of};
 use crate::chip::Chip;
 use crate::cold::Cold;
 use crate::counters::counter_of;
@@ -34,6 +35,16 @@ pub struct Open<B: Board, S: Suite> {
     pub(crate) chip: Chip,
 }
 
+// The body that opening line `at` gave, or that the line is corrupt.
+fn opened(found: Option<[u64; 8]>, at: usize) -> Result<[u64; 8], TreeFault>
+    ensures { λ r. ⌜ Opened found at r ⌝ }
+{
+    match found {
+        Some(body) => Ok(body),
+        None => Err(TreeFault::Corrupt(at)),
+    }
+}
+
 // The body of data line `at`, its way down and its own line checked.
 fn data_body<B: Board, S: Suite>(
     board: &B,
@@ -47,10 +58,7 @@ fn data_body<B: Board, S: Suite>(
 {
     let counter = counter_of(board, suite, slots, layout, at)?;
     let line = line_of(board, at)?;
-    match open_data(suite, at as u64, counter, &line) {
-        Some(body) => Ok(body),
-        None => Err(TreeFault::Corrupt(at)),
-    }
+    opened(open_data(suite, at as u64, counter, &line), at)
 }
 
 impl<B: Board, S: Suite> Open<B, S> {
@@ -98,6 +106,7 @@ impl<B: Board, S: Suite> Open<B, S> {
     // Reads the body of data line `at` into `body`, which a refusal leaves as zeros.
     pub fn read(&self, at: usize, body: &mut [u64; 8]) -> Result<(), Fault>
         ensures law { λ r. ⌜ Keeps (S·Suite .scheme (now (self .entry) .suite)) (world-in (B·Board .meaning (now (self .entry) .board)) (now (self .entry) .chip)) (reading at) (read-in r (now (body .exit))) (world-in (B·Board .meaning (now (self .entry) .board)) (now (self .entry) .chip)) ⌝ }
+        ensures others { λ r. ⌜ Keeps-latched (now (self .entry) .chip .latched) (world-in (B·Board .meaning (now (self .entry) .board)) (now (self .entry) .chip)) (reading at) (read-in r (now (body .exit))) (world-in (B·Board .meaning (now (self .entry) .board)) (now (self .entry) .chip)) ⌝ }
         ensures does { λ r. ⌜ read-in r (now (body .exit)) ≡ read-of (S·Suite .scheme (now (self .entry) .suite)) (B·Board .meaning (now (self .entry) .board)) (now (self .entry) .chip) at ⌝ }
         ensures zeros { λ r. ⌜ Cleared r (now (body .exit)) ⌝ }
     {
@@ -137,6 +146,7 @@ impl<B: Board, S: Suite> Open<B, S> {
     // Writes `body` to data line `at`: reports the commits made, refused or not.
     pub fn write(&mut self, at: usize, body: &[u64; 8]) -> Report
         ensures law { λ r. ⌜ Keeps (S·Suite .scheme (now (self .entry) .suite)) (world-in (B·Board .meaning (now (self .entry) .board)) (now (self .entry) .chip)) (writing at (row (now (body .entry)))) (report-in r) (world-in (B·Board .meaning (now (self .exit) .board)) (now (self .exit) .chip)) ⌝ }
+        ensures others { λ r. ⌜ Keeps-latched (now (self .entry) .chip .latched) (world-in (B·Board .meaning (now (self .entry) .board)) (now (self .entry) .chip)) (writing at (row (now (body .entry)))) (report-in r) (world-in (B·Board .meaning (now (self .exit) .board)) (now (self .exit) .chip)) ⌝ }
         ensures does { λ r. ⌜ Does (write-plan (S·Suite .scheme (now (self .entry) .suite)) (B·Board .meaning (now (self .entry) .board)) (now (self .entry) .chip) at (row (now (body .entry)))) (B·Board .meaning (now (self .entry) .board)) (now (self .entry) .chip) (report-in r) (B·Board .meaning (now (self .exit) .board)) (now (self .exit) .chip) ⌝ }
         ensures suite { λ _. ⌜ now (self .exit) .suite ≡ now (self .entry) .suite ⌝ }
     {
@@ -170,26 +180,37 @@ impl<B: Board, S: Suite> Open<B, S> {
     // Evicts every dirty node: reports the commits made, refused or not.
     pub fn flush(&mut self) -> Report
         ensures law { λ r. ⌜ Keeps (S·Suite .scheme (now (self .entry) .suite)) (world-in (B·Board .meaning (now (self .entry) .board)) (now (self .entry) .chip)) flushing (report-in r) (world-in (B·Board .meaning (now (self .exit) .board)) (now (self .exit) .chip)) ⌝ }
+        ensures others { λ r. ⌜ Keeps-latched (now (self .entry) .chip .latched) (world-in (B·Board .meaning (now (self .entry) .board)) (now (self .entry) .chip)) flushing (report-in r) (world-in (B·Board .meaning (now (self .exit) .board)) (now (self .exit) .chip)) ⌝ }
         ensures does { λ r. ⌜ Does (flush-plan (S·Suite .scheme (now (self .entry) .suite)) (B·Board .meaning (now (self .entry) .board)) (now (self .entry) .chip)) (B·Board .meaning (now (self .entry) .board)) (now (self .entry) .chip) (report-in r) (B·Board .meaning (now (self .exit) .board)) (now (self .exit) .chip) ⌝ }
         ensures suite { λ _. ⌜ now (self .exit) .suite ≡ now (self .entry) .suite ⌝ }
     {
-        let mut commits = 0;
-        let outcome = self.flush_counted(&mut commits);
-        Report { commits, outcome }
+        let mut made = 0;
+        let outcome = self.flush_counted(&mut made);
+        Report {
+            commits: made,
+            outcome,
+        }
     }
 }
 
 impl<B: Board, S: Suite + Drop> Open<B, S> {
-    // Takes the board down: what the chip holds is lost, as at a loss of power.
-    pub fn shut_down(self) -> Cold<B>
-        ensures board { λ r. ⌜ r .board ≡ self .board ⌝ }
-        ensures law { λ r. ⌜ Keeps (S·Suite .scheme (self .suite)) (world-in (B·Board .meaning (self .board)) (self .chip)) shut-down nothing (cold-in (B·Board .meaning (r .board))) ⌝ }
+    // The board alone: what the chip holds is lost.
+    fn into_board(self) -> B
+        ensures { λ r. ⌜ r ≡ self .board ⌝ }
     {
         let Open {
             board,
             suite: _suite,
             chip: _chip,
         } = self;
-        Cold { board }
+        board
+    }
+
+    // Takes the board down, as a loss of power would.
+    pub fn shut_down(self) -> Cold<B>
+        ensures board { λ r. ⌜ r .board ≡ self .board ⌝ }
+        ensures law { λ r. ⌜ ((K : Scheme) → Keeps K (world-in (B·Board .meaning (self .board)) (self .chip)) shut-down nothing (cold-in (B·Board .meaning (r .board)))) ⌝ }
+    {
+        Cold::new(self.into_board())
     }
 }

@@ -14,15 +14,30 @@ use board::tamper::Tamper;
 use board::types::Line;
 use suite::suite::Suite;
 
+// Puts a line in place past power; false where the board has no such line.
+fn put_line<B: Tamper>(board: &mut B, at: usize, line: Line) -> bool
+    ensures { λ r. ⌜ LinePut (B·Board .meaning (now (board .entry))) at line r (B·Board .meaning (now (board .exit))) ⌝ }
+{
+    board.put(at, line)
+}
+
+// Sets the power anew.
+fn set_power<B: Recharge>(board: &mut B, left: Option<u64>)
+    ensures power { λ _. ⌜ Recharged (B·Board .meaning (now (board .entry))) (B·Recharge .supply (now (board .entry))) left (B·Board .meaning (now (board .exit))) ⌝ }
+    ensures supply { λ _. ⌜ B·Recharge .supply (now (board .exit)) ≡ B·Recharge .supply (now (board .entry)) ⌝ }
+{
+    board.recharge(left)
+}
+
 impl<B: Tamper, S: Suite> Open<B, S> {
     // Puts a line in place from outside; false where the board has no such line. The chip knows nothing of it.
     pub fn tamper(&mut self, at: usize, line: Line) -> bool
-        ensures law { λ r. ⌜ Tampers (S·Suite .scheme (now (self .entry) .suite)) (world-in (B·Board .meaning (now (self .entry) .board)) (now (self .entry) .chip)) at (line-in line) r (world-in (B·Board .meaning (now (self .exit) .board)) (now (self .exit) .chip)) ⌝ }
+        ensures law { λ r. ⌜ ((K : Scheme) → Tampers K (world-in (B·Board .meaning (now (self .entry) .board)) (now (self .entry) .chip)) at (line-in line) r (world-in (B·Board .meaning (now (self .exit) .board)) (now (self .exit) .chip))) ⌝ }
         ensures put { λ r. ⌜ LinePut (B·Board .meaning (now (self .entry) .board)) at line r (B·Board .meaning (now (self .exit) .board)) ⌝ }
         ensures chip { λ _. ⌜ now (self .exit) .chip ≡ now (self .entry) .chip ⌝ }
         ensures suite { λ _. ⌜ now (self .exit) .suite ≡ now (self .entry) .suite ⌝ }
     {
-        self.board.put(at, line)
+        put_line(&mut self.board, at, line)
     }
 }
 
@@ -32,7 +47,7 @@ impl<B: Tamper> Cold<B> {
         ensures law { λ r. ⌜ ((K : Scheme) → Tampers K (cold-in (B·Board .meaning (now (self .entry) .board))) at (line-in line) r (cold-in (B·Board .meaning (now (self .exit) .board)))) ⌝ }
         ensures put { λ r. ⌜ LinePut (B·Board .meaning (now (self .entry) .board)) at line r (B·Board .meaning (now (self .exit) .board)) ⌝ }
     {
-        self.board.put(at, line)
+        put_line(&mut self.board, at, line)
     }
 }
 
@@ -43,6 +58,6 @@ impl<B: Recharge> Cold<B> {
         ensures power { λ _. ⌜ Recharged (B·Board .meaning (now (self .entry) .board)) (B·Recharge .supply (now (self .entry) .board)) left (B·Board .meaning (now (self .exit) .board)) ⌝ }
         ensures supply { λ _. ⌜ B·Recharge .supply (now (self .exit) .board) ≡ B·Recharge .supply (now (self .entry) .board) ⌝ }
     {
-        self.board.recharge(left)
+        set_power(&mut self.board, left)
     }
 }

@@ -1,5 +1,5 @@
 ghost use mathlib.Core.Path.{_≡_};
-ghost use Prim.Native.Nat.{ℕ, _-_, _<_, _≤_};
+ghost use Prim.Native.Nat.{_-_, _<_, _≤_};
 ghost use lib.Dec.{eqb};
 ghost use Rattle.machine.specs.Words.{row, line-in, memory-in, register-in};
 ghost use Rattle.machine.specs.Plans.{map-count, sum-of, restore-node, restore as restore-plan, recover as recover-plan};

@@ -1,7 +1,7 @@
 ghost use mathlib.Core.Path.{_≡_};
 ghost use mathlib.Core.Bool.{false};
 ghost use mathlib.Core.Option.{none};
-ghost use Prim.Native.Nat.{ℕ, _+_, _<_, _≤_};
+ghost use Prim.Native.Nat.{_+_, _-_, _<_, _≤_};
 ghost use Rattle.machine.specs.Words.{row};
 ghost use Rattle.machine.specs.Plans.{overdue, evict-overdue, write-call};
 ghost use Rattle.tree.specs.Layouts.{shape-in};
@@ -38,6 +38,14 @@ fn evict_overdue<B: Board, S: Suite>(
     Ok(())
 }
 
+// How many nodes may stay dirty beside one more.
+fn beside_one_more(capacity: usize) -> usize
+    requires { ⌜ 1 ≤ capacity ⌝ }
+    ensures { λ r. ⌜ r ≡ capacity - 1 ⌝ }
+{
+    capacity - 1
+}
+
 // Makes room for the counter of data line `at`: its overdue leaf is evicted, and a slot is free for a leaf that has none.
 fn make_room<B: Board, S: Suite>(
     board: &mut B,
@@ -64,7 +72,7 @@ fn make_room<B: Board, S: Suite>(
     if slots.holds(leaf) {
         return Ok(());
     }
-    evict_until(board, suite, slots, capacity - 1, commits)
+    evict_until(board, suite, slots, beside_one_more(capacity), commits)
 }
 
 // Writes data line `at`.

@@ -14,10 +14,10 @@ use Rattle.suite.specs.Scheme.{Line, Scheme}
 use Rattle.board.specs.Meaning.{Power}
 use Rattle.machine.specs.Layout.{Shape, TreeLaws, update}
 use Rattle.machine.specs.Store.{line-at, Journal, Register, Log, Write, BoardState, after-writes, Cut}
-use Rattle.machine.specs.Faults.{Cause, number, Fault, fault, Outcome, ok, err, bad-size, too-few-lines, invalid-register, other-suite, too-many-dirty, power-lost}
+use Rattle.machine.specs.Faults.{power-lost, Fault, fault, Outcome, ok, err, bad-size, too-few-lines, invalid-register, other-suite, too-many-dirty}
 use Rattle.machine.specs.Plans.{Slot, Table, is-dirty, dirty-count, recover, map-count}
-use Rattle.machine.specs.History.{World, latched, Answer, refused, power-lost-at, after, counter-in, body-in, shape-of, journal-writes, journal-in, register-valid, bring-up-check, recovered-answer, recovered-chip, Brought-up, Replayed}
-use Rattle.machine.specs.Laws.{Bring-up-law}
+use Rattle.machine.specs.History.{opened, refused, done, counter-in, World, latched, Answer, power-lost-at, after, body-in, shape-of, journal-writes, journal-in, register-valid, bring-up-check, recovered-answer, recovered-chip, Brought-up, Replayed}
+use Rattle.machine.specs.Laws.{Stands, Recovery-rests}
 use Rattle.machine.proofs.Invariant.{Durable, Fine, Exact, Slots-hold}
 use Rattle.machine.proofs.Basics.{update-same, update-other, every-from, sum-le, some-inj, none≢some, err≢ok}
 use Rattle.machine.proofs.Trails.{Open-holds, Cold-holds}
@@ -47,18 +47,6 @@ module _ (shapes : ℕ → Shape) (S : Scheme) where
       journaled-in : (o : Option Journal) → g .journal ≡ o → journal-in T o ≡ true
       journaled-in none e = refl
       journaled-in (some n) e = lt-ltb _ _ (D .journaled n e .0)
-
-  -- The first checks of bring-up, in order.
-  pub bring-up-why : (cap num : ℕ) (b : BoardState) (r : Fault) → bring-up-check shapes cap num b ≡ some r → register-valid shapes (b .register) ≡ true → shape-of shapes b .lines ≤ b .size → (r .cause ≡ bad-size) ⊎ ((r .cause ≡ other-suite) ⊎ (r .cause ≡ too-many-dirty))
-  unfolding bring-up-check
-  bring-up-why cap num b r e f h =
-      go (leb 1 cap && leb cap 64) (eqb num (b .register .suite)) (leb (map-count (shape-of shapes b) (b .register)) cap) (rw (f, le-leb (shape-of shapes b .lines) (b .size) h) at e)
-    where
-      go : (x y z : Bool) → cond x (cond y (cond z none (some (fault too-many-dirty 0))) (some (fault other-suite 0))) (some (fault bad-size 0)) ≡ some r → (r .cause ≡ bad-size) ⊎ ((r .cause ≡ other-suite) ⊎ (r .cause ≡ too-many-dirty))
-      go true true true e = absurd (none≢some e)
-      go true true false e = inr (inr (ap (λ q. q .cause) (sym (some-inj e))))
-      go true false z e = inr (inl (ap (λ q. q .cause) (sym (some-inj e))))
-      go false y z e = inl (ap (λ q. q .cause) (sym (some-inj e)))
 
   pub bring-up-may : (cap num : ℕ) (b : BoardState) → bring-up-check shapes cap num b ≡ none → b .register .formatted ≡ 1
   unfolding bring-up-check register-valid
@@ -92,22 +80,6 @@ module _ (shapes : ℕ → Shape) (S : Scheme) where
       at p (some s) x = rw (x .0) (omega arith)
       at p none x = rw x (omega arith)
 
-  bring-up-cause : (cap num : ℕ) (b : BoardState) (r : Fault) → bring-up-check shapes cap num b ≡ some r → r .cause ≡ power-lost → ⊥
-  unfolding bring-up-check
-  bring-up-cause cap num b r e h =
-      go (leb 1 cap && leb cap 64) (register-valid shapes (b .register)) (leb (shape-of shapes b .lines) (b .size)) (eqb num (b .register .suite)) (leb (map-count (shape-of shapes b) (b .register)) cap) e
-    where
-      at : {n : Cause} → some (fault n 0) ≡ some r → number n ≡ 10
-      at f = ap number (ap (λ q. q .cause) (some-inj f) ∙ h)
-
-      go : (a b c d f : Bool) → cond a (cond b (cond c (cond d (cond f none (some (fault too-many-dirty 0))) (some (fault other-suite 0))) (some (fault too-few-lines 0))) (some (fault invalid-register 0))) (some (fault bad-size 0)) ≡ some r → ⊥
-      go true true true true true e = none≢some e
-      go true true true true false e = let z : _≡_ {A = ℕ} 7 10 = at e in omega arith
-      go true true true false f e = let z : _≡_ {A = ℕ} 6 10 = at e in omega arith
-      go true true false d f e = let z : _≡_ {A = ℕ} 3 10 = at e in omega arith
-      go true false c d f e = let z : _≡_ {A = ℕ} 4 10 = at e in omega arith
-      go false b c d f e = let z : _≡_ {A = ℕ} 2 10 = at e in omega arith
-
   -- Writing the journal's line back.
   pub journal-register : (o : Option Journal) (k : ℕ) (b : BoardState) → after-writes k (journal-writes o) b .register ≡ b .register
   unfolding after-writes
@@ -134,8 +106,15 @@ module _ (shapes : ℕ → Shape) (S : Scheme) where
           (C .fine q j (λ m g z. f (sym z ∙ ap (λ y. y .at) (sym (some-inj (sym e ∙ g))))))
 
   module _ (laws : (h : ℕ) → 1 ≤ h → h ≤ 4 → TreeLaws (shapes h)) (w : World) (l : Log) (H : Board-holds shapes S (w .board) l) (cap num : ℕ) where
+    -- Past the first checks: accepted exactly when all it rests on stands, and then every dirty node is restored.
+    pub record Recovers (x : Answer) (w′ : World) : Type 0 where
+      pub accepts : bring-up-check shapes cap num (w .board) ≡ none → ((r : Fault) (n : ℕ) → x ≡ refused r n → r .cause ≡ power-lost → ⊥) →
+          (x ≡ done 0) ↔ ((q : ℕ) → Recovery-rests (shape-of shapes (w .board)) (w .board .register .dirty) q → Stands (shape-of shapes (w .board)) S l (w′ .board .memory) q)
+      pub restores : x ≡ done 0 → (t : Table) × (w′ .chip ≡ opened cap t) ×
+          ((p : ℕ) → p < shape-of shapes (w .board) .lines → w .board .register .dirty p ≡ true → (s : Slot) × (t p ≡ some s) × ((i : ℕ) → i < shape-of shapes (w .board) .arity p → s .counters i ≡ counter-in l (shape-of shapes (w .board) .child p i)))
+
     abbrev Result : Answer → World → Type 0
-    Result x w′ = Holds shapes S (w′ .chip) (w′ .board) l × Bring-up-law shapes S w l cap num x w′
+    Result x w′ = Holds shapes S (w′ .chip) (w′ .board) l × Recovers x w′
 
     safe-of : w .board .register .formatted ≡ 1 → Formatted-board shapes S (w .board .size) (w .board .register) × Cold-holds shapes (shape-of shapes (w .board)) S l (w .board .memory) (w .board .register)
     safe-of e = go H
@@ -148,14 +127,7 @@ module _ (shapes : ℕ → Shape) (S : Scheme) where
     early r e = (
       H,
       record {
-        before = λ y f. (
-          ap (λ z. refused z 0) (some-inj (sym e ∙ f)),
-          λ m.
-              let (s, C) = safe-of m in
-              bring-up-why cap num (w .board) y f (valid-holds (w .board .size) (w .board .register) l (laws _ (s .low) (s .high)) s (C .durable)) (s .fitting),
-        );
         accepts = λ f. absurd (none≢some (sym f ∙ e));
-        lost = λ y n f c. absurd (bring-up-cause cap num (w .board) y (e ∙ ap some (refused-inj f .0)) c);
         restores = λ f. absurd (done≢refused (sym f));
       },
     )
@@ -182,16 +154,11 @@ module _ (shapes : ℕ → Shape) (S : Scheme) where
       same : after-writes k ws (w .board) .register ≡ w .board .register
       same = journal-register (w .board .register .journal) k (w .board)
 
-      no-early : {X : Type 0} (r : Fault) → bring-up-check shapes cap num (w .board) ≡ some r → X
-      no-early r e = absurd (none≢some (sym may ∙ e))
-
       cut-off : k < length ws → Result (refused (power-lost-at k ws) 0) (record { board = b′; chip = latched (power-lost-at k ws) })
       cut-off i = (
         rw same (inr (s, subst (λ m. Cold-holds shapes T S l m (w .board .register)) (sym (journal-not (w .board .register .journal) k (w .board) i)) C)),
         record {
-          before = λ r e. no-early r e;
           accepts = λ _ n. absurd (n (power-lost-at k ws) 0 refl refl);
-          lost = λ y n f e. cut-lost (w .board .power) p (length ws) k c i;
           restores = λ f. absurd (done≢refused (sym f));
         },
       )
@@ -205,9 +172,7 @@ module _ (shapes : ℕ → Shape) (S : Scheme) where
             let (slots-hold, st) = recover-valid shapes T L S l (after-writes k ws (w .board) .memory) (w .board .register) (C .durable) fine t e in (
               rw same (s, record { durable = C .durable; slots-hold = slots-hold; fine = fine }, slots-may cap num (w .board) may .0, slots-may cap num (w .board) may .1, omega (arith, used-map T l (w .board .register) t slots-hold, slots-may cap num (w .board) may .2)),
               record {
-                before = λ r e. no-early r e;
                 accepts = λ _ _. ((λ _. st), λ _. refl);
-                lost = λ y n f. absurd (done≢refused f);
                 restores = λ _. (t, refl, λ q j u. slot q u (t q) refl (slots-hold .exact q));
               },
             )
@@ -218,9 +183,7 @@ module _ (shapes : ℕ → Shape) (S : Scheme) where
         opens (err r) e = (
           rw same (inr (s, record { durable = C .durable; fine = λ q j _. fine q j })),
           record {
-            before = λ r e. no-early r e;
             accepts = λ _ _. ((λ f. absurd (done≢refused (sym f))), λ all. absurd (none-err (recover-complete shapes T L S l (after-writes k ws (w .board) .memory) (w .board .register) (C .durable) all)));
-            lost = λ y n f h. absurd (recover-cause T S (after-writes k ws (w .board) .memory) (w .board .register) y (e ∙ ap err (refused-inj f .0)) h);
             restores = λ f. absurd (done≢refused (sym f));
           },
         )

@@ -13,12 +13,12 @@ use Rattle.suite.specs.Scheme.{Body, Line, Scheme}
 use Rattle.board.specs.Meaning.{Power, endless, writes}
 use Rattle.machine.specs.Layout.{Shape, TreeLaws, update}
 use Rattle.machine.specs.Store.{line-at, Journal, Register, Log, Write, BoardState, after-writes, place-of, Cut}
-use Rattle.machine.specs.Faults.{Cause, number, Fault, fault, Outcome, ok, err, bad-size, invalid-register, other-suite, too-many-dirty, corrupt, sum-mismatch, power-lost}
+use Rattle.machine.specs.Faults.{Fault, Cause, number, fault, Outcome, ok, err, bad-size, invalid-register, other-suite, too-many-dirty, corrupt, sum-mismatch, power-lost}
 use Rattle.machine.specs.Plans.{Table, recover, map-count}
-use Rattle.machine.specs.History.{In-log, World, latched, Answer, done, refused, power-lost-at, after, shape-of, journal-writes, register-valid, bring-up-check, recovered-answer, recovered-chip, Brought-up}
-use Rattle.machine.specs.Laws.{Stands, Rests, Recovery-rests, Bring-up-law}
-use Rattle.machine.specs.CommitLaws.{Not-raised, dirty-in, pending-in, Journal-power-lost, Bring-up-answers}
-use Rattle.machine.specs.Promises.{Unchanged, Bring-up-unformatted, Bring-up-order}
+use Rattle.machine.specs.History.{cold, bring-up, In-log, World, latched, Answer, done, refused, power-lost-at, after, shape-of, journal-writes, register-valid, bring-up-check, recovered-answer, recovered-chip, Brought-up}
+use Rattle.machine.specs.Laws.{Recovery-rests, Unchanged, Stands, Rests}
+use Rattle.machine.specs.CommitLaws.{Not-raised, dirty-in, pending-in}
+use Rattle.machine.specs.Promises.{Law, Unformatted-law, Bring-up-law, Powerless, Passes}
 use Rattle.machine.proofs.Invariant.{Durable}
 use Rattle.machine.proofs.Basics.{update-same, update-other, sum-same, some-inj, none≢some}
 use Rattle.machine.proofs.Trails.{Cold-holds}
@@ -26,9 +26,14 @@ use Rattle.machine.proofs.BoardHolds.{Formatted-board, Board-holds}
 use Rattle.machine.proofs.Cuts.{cut-le, cut-lost, refused-inj, done≢refused}
 use Rattle.machine.proofs.Recovery.{recover-why, recover-cause}
 use Rattle.machine.proofs.RegisterSays.{dirty-say}
-use Rattle.machine.proofs.BringUp.{valid-holds, journal-register, journal-fine, bring-up-holds}
+use Rattle.machine.proofs.BringUp.{Recovers, valid-holds, journal-register, journal-fine, bring-up-holds}
 use Rattle.machine.proofs.SumMismatch.{missed-old}
 use Rattle.machine.proofs.CorruptPlace.{recover-fails}
+
+-- Lost power at the journal's line.
+abbrev Journal-power-lost : World → Fault → Option Journal → Type 0
+Journal-power-lost w r none = ⊥
+Journal-power-lost w r (some n) = (r ≡ fault power-lost (n .at)) × (w .board .power ≡ writes 0)
 
 module _ (shapes : ℕ → Shape) (S : Scheme) where
   dirty-dirty : (T : Shape) (l : Log) (g : Register) → Durable T S l g → map-count T g ≡ dirty-in T l
@@ -125,10 +130,10 @@ module _ (shapes : ℕ → Shape) (S : Scheme) where
         go (some r) (ex, ew, el) = inr (r, ex, ap (λ z. z .chip) ew)
         go none (k, p, c, ex, ew, el) = rw (ex, ew) (cut k _ (ltb k (length ws)))
 
-    abbrev Same-commit : BoardState → Type 0
-    Same-commit b = (b .size ≡ w .board .size) × (b .register ≡ w .board .register) × ((q : ℕ) → (b .memory q ≡ w .board .memory q) ⊎ ((L : Line) × (w .board .register .journal ≡ some (record { at = q; line = L })) × (b .memory q ≡ L)))
+    abbrev Same-board : BoardState → Type 0
+    Same-board b = (b .size ≡ w .board .size) × (b .register ≡ w .board .register) × ((q : ℕ) → (b .memory q ≡ w .board .memory q) ⊎ ((L : Line) × (w .board .register .journal ≡ some (record { at = q; line = L })) × (b .memory q ≡ L)))
 
-    keeps : Same-commit (w′ .board)
+    keeps : Same-board (w′ .board)
     unfolding after-writes
     keeps = go (bring-up-check shapes cap num (w .board)) B
       where
@@ -141,19 +146,19 @@ module _ (shapes : ℕ → Shape) (S : Scheme) where
             or (inl f) = inr (n .line, e ∙ ap (λ z. some (record { at = z; line = n .line })) (sym f), update-same (w .board .memory) (n .at) (n .line) q f)
             or (inr f) = inl (update-other (w .board .memory) (n .at) (n .line) q f)
 
-        go : (o : Option Fault) → Brought-up shapes S cap (w .board) o l x w′ l′ → Same-commit (w′ .board)
-        go (some r) (ex, ew, el) = subst (λ z. Same-commit (z .board)) (sym ew) (refl, refl, λ q. inl refl)
-        go none (k, p, c, ex, ew, el) = subst (λ z. Same-commit (z .board)) (sym ew) (refl, journal-register shapes S (w .board .register .journal) k (w .board), at (w .board .register .journal) refl k)
+        go : (o : Option Fault) → Brought-up shapes S cap (w .board) o l x w′ l′ → Same-board (w′ .board)
+        go (some r) (ex, ew, el) = subst (λ z. Same-board (z .board)) (sym ew) (refl, refl, λ q. inl refl)
+        go none (k, p, c, ex, ew, el) = subst (λ z. Same-board (z .board)) (sym ew) (refl, journal-register shapes S (w .board .register .journal) k (w .board), at (w .board .register .journal) refl k)
 
     module _ (laws : (h : ℕ) → 1 ≤ h → h ≤ 4 → TreeLaws (shapes h)) (s : Formatted-board shapes S (w .board .size) (w .board .register)) (C : Cold-holds shapes T S l (w .board .memory) (w .board .register)) where
       is : bring-up-check shapes cap num (w .board) ≡ cond (leb 1 cap && leb cap 64) (cond (eqb num (S .number)) (cond (leb (dirty-in T l) cap) none (some (fault too-many-dirty 0))) (some (fault other-suite 0))) (some (fault bad-size 0))
       is = check-is (w .board) l (laws _ (s .low) (s .high)) s (C .durable) cap num
 
-      law : Bring-up-law shapes S w l cap num x w′
+      law : Recovers shapes S laws w l (inr (s, C)) cap num x w′
       law = bring-up-holds shapes S laws w l (inr (s, C)) cap num x w′ l′ B .0 .1
 
-      passed : 1 ≤ cap → cap ≤ 64 → num ≡ S .number → dirty-in T l ≤ cap → bring-up-check shapes cap num (w .board) ≡ none
-      passed h i e f = is ∙ rw (slots-ok cap h i, eq-eqb num (S .number) e, le-leb (dirty-in T l) cap f)
+      passes : Passes S T cap num l → bring-up-check shapes cap num (w .board) ≡ none
+      passes (h, i, e, f) = is ∙ rw (slots-ok cap h i, eq-eqb num (S .number) e, le-leb (dirty-in T l) cap f)
 
       power-out : (o : Option Journal) (k : ℕ) (p q : Power) → Cut p (length (journal-writes o)) k q → k < length (journal-writes o) → p ≡ writes 0
       power-out none k p q c h = absurd (omega arith)
@@ -315,21 +320,25 @@ module _ (shapes : ℕ → Shape) (S : Scheme) where
           go (inl g) = done≢refused (sym g ∙ f)
           go (inr (y, g, _)) = at (why e r (g ∙ ap (λ u. refused u 0) (refused-inj (sym g ∙ f) .0)))
 
-      pub formatted-law : Bring-up-answers S T cap num w l x w′
+      in-journal : (r : Fault) (o : Option Journal) → w .board .register .journal ≡ o → Journal-power-lost w r o → (j : Journal) × Powerless S T w j
+      in-journal r none g y = absurd y
+      in-journal r (some m) g y = (m, (g, y .1))
+
+      pub formatted-law : Bring-up-law S T cap num w l x w′
       unfolding Why
       formatted-law =
           record {
             answers = answers;
-            slots = λ h. bare (early (fault bad-size 0) (is ∙ rw (slots-err cap h)));
-            suites = λ h i n. bare (early (fault other-suite 0) (is ∙ rw (slots-ok cap h i, ne-eqb num (S .number) n)));
+            bad-slots = λ h. bare (early (fault bad-size 0) (is ∙ rw (slots-err cap h)));
+            other-suites = λ h i n. bare (early (fault other-suite 0) (is ∙ rw (slots-ok cap h i, ne-eqb num (S .number) n)));
             too-many = λ h i n f. bare (early (fault too-many-dirty 0) (is ∙ rw (slots-ok cap h i, eq-eqb num (S .number) n, lt-leb (dirty-in T l) cap f)));
-            why = λ h i n f. why (passed h i n f);
-            missed = missed;
+            powerless = λ u j y. goes-lost (passes u) j (y .0) (y .1);
+            rewrites = λ u. writes-back (passes u);
+            accepts = λ u d. law .accepts (passes u) (not-lost (passes u) (λ j e f. d j (e, f)));
+            restores = law .restores;
+            why = λ u r f. ⊎-elim (λ y. inl (in-journal r (w .board .register .journal) refl y)) (λ y. inr (y .0)) (why (passes u) r f);
             places = places;
-            accepts = λ h i n f d. law .accepts (passed h i n f) (not-lost (passed h i n f) d);
-            opens = λ e. let (t, c, _) = law .restores e in (t, c);
-            loses-power = λ h i n f. goes-lost (passed h i n f);
-            journaled = λ h i n f. writes-back (passed h i n f);
+            missed = missed;
             idle = idle;
             spends = spends;
             keeps = keeps;
@@ -339,22 +348,17 @@ module _ (shapes : ℕ → Shape) (S : Scheme) where
     unfolding register-valid
     not-formatted h = rw (ne-eqb (w .board .register .formatted) 1 h)
 
-    pub unmade-law : w .board .register .formatted ≡ 0 → Bring-up-unformatted shapes S cap w l x w′ l′
+    pub unmade-law : w .board .register .formatted ≡ 0 → Unformatted-law cap w l x w′ l′
     unfolding bring-up-check
     unmade-law h =
         record {
-          slots = λ i. early (fault bad-size 0) (rw (slots-err cap i));
-          not-formatted = λ i j. early (fault invalid-register 0) (rw (slots-ok cap i j, not-formatted (λ e. omega arith)));
+          bad-slots = λ i. early (fault bad-size 0) (rw (slots-err cap i));
+          invalid = λ i j. early (fault invalid-register 0) (rw (slots-ok cap i j, not-formatted (λ e. omega arith)));
         }
 
-  pub bring-up-order : (laws : (h : ℕ) → 1 ≤ h → h ≤ 4 → TreeLaws (shapes h)) (cap num : ℕ) (w : World) (l : Log) → Board-holds shapes S (w .board) l → (x : Answer) (w′ : World) (l′ : Log) → Brought-up shapes S cap (w .board) (bring-up-check shapes cap num (w .board)) l x w′ l′ → Bring-up-order shapes S cap num w l x w′ l′
-  bring-up-order laws cap num w l H x w′ l′ B =
-      record {
-        log = log-kept cap num w l x w′ l′ B;
-        formatted = λ e. go H e;
-        unformatted = unmade-law cap num w l x w′ l′ B;
-      }
+  pub bring-up-law : (laws : (h : ℕ) → 1 ≤ h → h ≤ 4 → TreeLaws (shapes h)) (cap num : ℕ) (w : World) (l : Log) → Board-holds shapes S (w .board) l → (x : Answer) (w′ : World) (l′ : Log) → Brought-up shapes S cap (w .board) (bring-up-check shapes cap num (w .board)) l x w′ l′ → Law shapes S w l cold (bring-up cap num) x w′ l′
+  bring-up-law laws cap num w l H x w′ l′ B = (log-kept cap num w l x w′ l′ B, go H, unmade-law cap num w l x w′ l′ B)
     where
-      go : Board-holds shapes S (w .board) l → w .board .register .formatted ≡ 1 → Bring-up-answers S (shape-of shapes (w .board)) cap num w l x w′
+      go : Board-holds shapes S (w .board) l → w .board .register .formatted ≡ 1 → Bring-up-law S (shape-of shapes (w .board)) cap num w l x w′
       go (inl z) e = absurd (omega (arith, z .0))
       go (inr (s, C)) e = formatted-law cap num w l x w′ l′ B laws s C

@@ -15,13 +15,13 @@ use Rattle.machine.specs.Store.{Log}
 use Rattle.machine.specs.Faults.{Fault}
 use Rattle.machine.specs.Plans.{Slot, Table, is-dirty, slot-counters, View, Run, stay, chain, and-then, commit, overdue, evict-now, evict-at, evict, dirty-count, evict-lowest, evict-until, make-room, evict-overdue, write-at, flush-call}
 use Rattle.machine.specs.History.{counter-in}
-use Rattle.machine.specs.CommitLaws.{pending-in, dirty-in, counters-in, with-next, Evicted, alone, parent-first, Evicted-until, enough, lowest-first, Written, under-root, leaf-dirty, leaf-not, leaf-overdue, to-come}
+use Rattle.machine.specs.CommitLaws.{pending-in, dirty-in, counters-in, with-next, Evicted, alone, parent-first, Evicted-until, enough, lowest-first, Written, under-root, leaf-dirty, leaf-clean, leaf-overdue, to-come}
 use Rattle.machine.specs.Plans as plans
 use Rattle.machine.proofs.Invariant.{Durable, Exact, Slots-hold}
 use Rattle.machine.proofs.Basics.{update-same, update-other, some-inj, none≢some, first-none, first-some}
 use Rattle.machine.proofs.TrustedCounter.{root-parent, inner-parent, depth-next}
-use Rattle.machine.proofs.Trails.{Legal, entry, Trail, end, step, join, Open-holds, warm-trail}
-use Rattle.machine.proofs.Runs.{Roomy, not-overdue, overdue-held, Reason, Commits, commit-goes, held-full, held-bare, held-inner, room-freed, data-slot}
+use Rattle.machine.proofs.Trails.{Legal, entry, Trail, end, step, join, Open-holds, open-after}
+use Rattle.machine.proofs.Runs.{Can-raise, not-overdue, overdue-held, Reason, Commits, commit-goes, held-full, held-bare, held-inner, room-freed, data-slot}
 use Rattle.machine.proofs.SlotTable.{evict-slots}
 use Rattle.machine.proofs.RegisterSays.{counters-are, used-dirty, held-pending, free-level, slot-pending}
 use Rattle.machine.proofs.CommitOrder.{to-come-front, to-come-one, out-clears, freed-sum, level-few}
@@ -68,12 +68,12 @@ module _ (shapes : ℕ → Shape) (T : Shape) (L : TreeLaws T) (S : Scheme) wher
 
   -- One commit.
   module _ (l : Log) (v : View) (w : Open-holds shapes T S l v) (t : Table) (a : ℕ) (b : Body) (k : a < T .lines) (own : t a ≡ none) (others : (p : ℕ) → (p ≡ a → ⊥) → t p ≡ v .table p)
-      (full : T .data-lines ≤ a → (i : ℕ) → i < T .arity a → b i ≡ counter-in l (T .child a i)) (roomy : Roomy (v .table (T .parent a))) (bare : T .data-lines ≤ a → (i : ℕ) → T .arity a ≤ i → b i ≡ 0) where
+      (full : T .data-lines ≤ a → (i : ℕ) → i < T .arity a → b i ≡ counter-in l (T .child a i)) (can-raise : Can-raise (v .table (T .parent a))) (bare : T .data-lines ≤ a → (i : ℕ) → T .arity a ≤ i → b i ≡ 0) where
     pub commit-plan : Plan (λ j. j ≡ with-next l a b) l v (commit T S v t a b)
-    commit-plan = go (commit-goes shapes T L S l v w t a b k own others full roomy bare)
+    commit-plan = go (commit-goes shapes T L S l v w t a b k own others full can-raise bare)
       where
-        go : Commits shapes T L S l v w t a b k own others full roomy bare (commit T S v t a b) → Plan (λ j. j ≡ with-next l a b) l v (commit T S v t a b)
-        go (inl (x, e, d, y)) =
+        go : Commits shapes T L S l v w t a b k own others full can-raise bare (commit T S v t a b) → Plan (λ j. j ≡ with-next l a b) l v (commit T S v t a b)
+        go (inl (x, e, y)) =
             subst (Plan (λ j. j ≡ with-next l a b) l v) (sym e)
             (record {
               log = l;
@@ -87,7 +87,7 @@ module _ (shapes : ℕ → Shape) (T : Shape) (L : TreeLaws T) (S : Scheme) wher
             subst (Plan (λ j. j ≡ with-next l a b) l v) (sym e)
             (record { log = entry a (suc (counter-in l a)) b ∷ l; trail = step t a (suc (counter-in l a)) b tt g end; extra = []; full = refl; ending = λ _. refl; why = λ x f. absurd (none≢some f) })
 
-  now-plan : (l : Log) (v : View) → Open-holds shapes T S l v → (A : ℕ) → is-dirty (v .table A) ≡ true → Roomy (v .table (T .parent A)) → Plan (λ j. j ≡ with-next l A (counters-in T l A)) l v (evict-now T S v A)
+  now-plan : (l : Log) (v : View) → Open-holds shapes T S l v → (A : ℕ) → is-dirty (v .table A) ≡ true → Can-raise (v .table (T .parent A)) → Plan (λ j. j ≡ with-next l A (counters-in T l A)) l v (evict-now T S v A)
   unfolding evict-now
   now-plan l v w A h r =
       let (n, k) = held-inner shapes T L S l v w A h in
@@ -113,14 +113,14 @@ module _ (shapes : ℕ → Shape) (T : Shape) (L : TreeLaws T) (S : Scheme) wher
   -- Evicting.
   pub evict-plan : (r : ℕ) (l : Log) (v : View) → Open-holds shapes T S l v → (A : ℕ) → is-dirty (v .table A) ≡ true → T .depth (T .parent A) ≡ r → Plan (Evicted T l A) l v (evict-at T S v r A)
   unfolding evict-at
-  evict-plan zero l v w A h e = plan-map (λ j f. subst (Evicted T l A) (sym f) (alone (inl (root-parent T L A k e)))) (now-plan l v w A h (roomy (v .table (T .parent A)) refl))
+  evict-plan zero l v w A h e = plan-map (λ j f. subst (Evicted T l A) (sym f) (alone (inl (root-parent T L A k e)))) (now-plan l v w A h (can-raise (v .table (T .parent A)) refl))
     where
       k : A < T .lines
       k = held-inner shapes T L S l v w A h .1
 
-      roomy : (o : Option Slot) → v .table (T .parent A) ≡ o → Roomy o
-      roomy (some s) f = absurd (omega (arith, root-parent T L A k e, held-inner shapes T L S l v w (T .parent A) (ap is-dirty f) .1))
-      roomy none f = tt
+      can-raise : (o : Option Slot) → v .table (T .parent A) ≡ o → Can-raise o
+      can-raise (some s) f = absurd (omega (arith, root-parent T L A k e, held-inner shapes T L S l v w (T .parent A) (ap is-dirty f) .1))
+      can-raise none f = tt
   evict-plan (suc r) l v w A h e = go (overdue (v .table (T .parent A))) refl (λ f. evict-plan r l v w (T .parent A) f (depth-next T L A r j e))
     where
       k : A < T .lines
@@ -140,9 +140,9 @@ module _ (shapes : ℕ → Shape) (T : Shape) (L : TreeLaws T) (S : Scheme) wher
           let p = ih (overdue-held T S (v .table (T .parent A)) f) in
           plan-then (Evicted T l (T .parent A)) (λ k j. j ≡ with-next k A (counters-in T k A)) (Evicted T l A) l v first-run (λ u. evict-now T S u A) p
           (λ n.
-          now-plan (p .log) (first-run .view) (warm-trail shapes T L S w (p .trail)) A
+          now-plan (p .log) (first-run .view) (open-after shapes T L S w (p .trail)) A
           (ap is-dirty (slots n A (omega (arith, L .parent-above A k)) ∙ update-other (v .table) (T .parent A) none A (λ g. omega (arith, g, L .parent-above A k))) ∙ h)
-          (subst Roomy (sym (slots n (T .parent A) (omega arith) ∙ update-same (v .table) (T .parent A) none (T .parent A) refl)) tt))
+          (subst Can-raise (sym (slots n (T .parent A) (omega arith) ∙ update-same (v .table) (T .parent A) none (T .parent A) refl)) tt))
           (λ k i o z. subst (Evicted T l A) (sym z) (parent-first j (overdue-many l v w (T .parent A) f) o))
           (λ k o. (record { at = A; counter = suc (counter-in k A); body = counters-in T k A } ∷ [], refl))
       go false f ih = plan-map (λ i z. subst (Evicted T l A) (sym z) (alone (inr (not-many l v w (T .parent A) j f)))) (now-plan l v w A h (not-overdue T S (v .table (T .parent A)) f))
@@ -165,7 +165,7 @@ module _ (shapes : ℕ → Shape) (T : Shape) (L : TreeLaws T) (S : Scheme) wher
           let low′ : (q : ℕ) → q < A → pending-in T l q ≡ 0 = λ q i. free-level T S l (v .register) (w .durable) (v .table) (w .slots-hold) q (omega arith) (low q i) in
           let p = evict-plan (T .depth (T .parent A)) l v w A held refl in
           plan-then (Evicted T l A) (Evicted-until T m) (Evicted-until T m l) l v (evict T S v A) (evict-until T S m f) p
-          (λ n. ih (p .log) (evict T S v A .view) (warm-trail shapes T L S w (p .trail)) (out-clears T L f k pos low′ h (plan-done p n)))
+          (λ n. ih (p .log) (evict T S v A .view) (open-after shapes T L S w (p .trail)) (out-clears T L f k pos low′ h (plan-done p n)))
           (λ k′ j o z. lowest-first y k pos low′ o z)
           (λ k′ o. freed-sum T L m k′)
 
@@ -188,15 +188,15 @@ module _ (shapes : ℕ → Shape) (T : Shape) (L : TreeLaws T) (S : Scheme) wher
       P : ℕ
       P = T .parent a
 
-      root-room : T .depth (T .parent a) ≡ 0 → (o : Option Slot) → v .table (T .parent a) ≡ o → Roomy o
+      root-room : T .depth (T .parent a) ≡ 0 → (o : Option Slot) → v .table (T .parent a) ≡ o → Can-raise o
       root-room e (some s) f = absurd (omega (arith, root-parent T L a k e, held-inner shapes T L S l v w (T .parent a) (ap is-dirty f) .1))
       root-room e none f = tt
 
-      own : (l₁ : Log) (u : View) → Open-holds shapes T S l₁ u → Roomy (u .table (T .parent a)) → Plan (λ j. j ≡ with-next l₁ a b) l₁ u (commit T S u (u .table) a b)
+      own : (l₁ : Log) (u : View) → Open-holds shapes T S l₁ u → Can-raise (u .table (T .parent a)) → Plan (λ j. j ≡ with-next l₁ a b) l₁ u (commit T S u (u .table) a b)
       own l₁ u w₁ y = commit-plan l₁ u w₁ (u .table) a b k (data-slot shapes T L S l₁ u w₁ a h) (λ p _. refl) (λ z. absurd (omega arith)) y (λ z. absurd (omega arith))
 
-      roomy : View → Run
-      roomy u = make-room T S cap (T .parent a) u (u .table (T .parent a))
+      can-raise : View → Run
+      can-raise u = make-room T S cap (T .parent a) u (u .table (T .parent a))
 
       Ready : Log → Type 0
       Ready j = Written T cap a b l (with-next j a b)
@@ -206,16 +206,16 @@ module _ (shapes : ℕ → Shape) (T : Shape) (L : TreeLaws T) (S : Scheme) wher
           let z = slot-pending T S l (v .register) (w .durable) (v .table) (w .slots-hold) (T .parent a) s e in
           plan-stay l v (leaf-dirty j (held-pending T S l (v .register) (w .durable) (v .table) (w .slots-hold) (T .parent a) (ap is-dirty e)) (omega (arith, z, leb-false _ _ f)))
       kept j none e f =
-          plan-map (λ i z. leaf-not j (free-level T S l (v .register) (w .durable) (v .table) (w .slots-hold) (T .parent a) j (ap is-dirty e)) z) (until-plan (cap - 1) (T .lines) l v w (λ q i. absurd (omega arith)))
+          plan-map (λ i z. leaf-clean j (free-level T S l (v .register) (w .durable) (v .table) (w .slots-hold) (T .parent a) j (ap is-dirty e)) z) (until-plan (cap - 1) (T .lines) l v w (λ q i. absurd (omega arith)))
 
-      cleared : T .parent a < T .lines → (d : Bool) → overdue (v .table (T .parent a)) ≡ d → Plan Ready l v (and-then (cond d (evict T S v (T .parent a)) (stay v)) roomy)
+      cleared : T .parent a < T .lines → (d : Bool) → overdue (v .table (T .parent a)) ≡ d → Plan Ready l v (and-then (cond d (evict T S v (T .parent a)) (stay v)) can-raise)
       cleared j true f =
           let p = evict-plan (T .depth (T .parent (T .parent a))) l v w (T .parent a) (overdue-held T S (v .table (T .parent a)) f) refl in
-          plan-then (Evicted T l (T .parent a)) (Evicted-until T (cap - 1)) Ready l v (evict T S v (T .parent a)) roomy p
+          plan-then (Evicted T l (T .parent a)) (Evicted-until T (cap - 1)) Ready l v (evict T S v (T .parent a)) can-raise p
           (λ n.
           let e : evict T S v (T .parent a) .view .table (T .parent a) ≡ none = evict-slots T S L (T .depth (T .parent (T .parent a))) v (T .parent a) j refl n (T .parent a) (omega arith) ∙ update-same (v .table) (T .parent a) none (T .parent a) refl in
           subst (λ o. Plan (Evicted-until T (cap - 1) (p .log)) (p .log) (evict T S v (T .parent a) .view) (make-room T S cap (T .parent a) (evict T S v (T .parent a) .view) o)) (sym e)
-          (until-plan (cap - 1) (T .lines) (p .log) (evict T S v (T .parent a) .view) (warm-trail shapes T L S w (p .trail)) (λ q i. absurd (omega arith))))
+          (until-plan (cap - 1) (T .lines) (p .log) (evict T S v (T .parent a) .view) (open-after shapes T L S w (p .trail)) (λ q i. absurd (omega arith))))
           (λ i g o z. leaf-overdue j (overdue-many l v w (T .parent a) f) o z)
           (λ i o. freed-sum T L (cap - 1) i)
       cleared j false f = kept j (v .table (T .parent a)) refl f
@@ -224,7 +224,7 @@ module _ (shapes : ℕ → Shape) (T : Shape) (L : TreeLaws T) (S : Scheme) wher
       go zero e = plan-map (λ j f. subst (Written T cap a b l) (sym f) (under-root (root-parent T L a k e))) (own l v w (root-room e (v .table (T .parent a)) refl))
       go (suc r) e =
           let p = cleared (inner-parent T L a r k e) (overdue (v .table (T .parent a))) refl in
-          plan-then Ready (λ i g. g ≡ with-next i a b) (Written T cap a b l) l v (and-then (evict-overdue T S v (T .parent a)) roomy) (λ u. commit T S u (u .table) a b) p
-          (λ n. own (p .log) (and-then (evict-overdue T S v (T .parent a)) roomy .view) (warm-trail shapes T L S w (p .trail)) (room-freed shapes T L S cap l v w a h .1 n))
+          plan-then Ready (λ i g. g ≡ with-next i a b) (Written T cap a b l) l v (and-then (evict-overdue T S v (T .parent a)) can-raise) (λ u. commit T S u (u .table) a b) p
+          (λ n. own (p .log) (and-then (evict-overdue T S v (T .parent a)) can-raise .view) (open-after shapes T L S w (p .trail)) (room-freed shapes T L S cap l v w a h .1 n))
           (λ i g x z. subst (Written T cap a b l) (sym z) x)
           (λ i x. (record { at = a; counter = suc (counter-in i a); body = b } ∷ [], refl))

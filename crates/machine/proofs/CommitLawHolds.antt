@@ -16,10 +16,9 @@ use Rattle.machine.specs.Layout.{Shape, TreeLaws}
 use Rattle.machine.specs.Store.{Log, BoardState, after-writes, log-after, commits-in, place-of, Cut}
 use Rattle.machine.specs.Faults.{number, Fault, fault, not-data, power-lost}
 use Rattle.machine.specs.Plans.{Table, View, Run, stop, write-at, write-call, flush-call}
-use Rattle.machine.specs.History.{World, opened, latched, Answer, done, refused, ending, power-lost-at, answer-of, chip-of, after, view-of, shape-of, Ran}
-use Rattle.machine.specs.Laws.{Stands}
+use Rattle.machine.specs.History.{counter-in, World, opened, latched, Answer, done, refused, ending, power-lost-at, answer-of, chip-of, after, view-of, shape-of, Ran}
+use Rattle.machine.specs.Laws.{Stands, Way-stands, Unchanged}
 use Rattle.machine.specs.CommitLaws.{Not-raised, none-yet, Evicted-until, Written, to-come, newest, In-hand, limit-reached, before-register, before-line, corrupt-above, Commit-law}
-use Rattle.machine.specs.Promises.{Unchanged}
 use Rattle.machine.proofs.Basics.{some-inj, none≢some}
 use Rattle.machine.proofs.Trails.{Trail, Open-holds, after-writes-all, register-kept}
 use Rattle.machine.proofs.Runs.{Reason}
@@ -45,8 +44,8 @@ module _ (shapes : ℕ → Shape) (S : Scheme) (w : World) (L : TreeLaws (shape-
     le : k ≤ length (r .planned)
     le = cut-le (w .board .power) p (length (r .planned)) k c
 
-    part : Parts shapes T L S (r .planned) l (P .log) (after-writes k (r .planned) (w .board) .memory) k
-    part = parts shapes T L S W (P .trail) (w .board) refl k
+    part : Parts shapes T L S (r .planned) l (P .log) (after-writes k (r .planned) (w .board)) k
+    part = parts shapes T L S W (P .trail) (w .board) refl refl k
 
     open-chip : k ≡ length (r .planned) → chip-of cap r k ≡ opened cap (r .view .table)
     open-chip e = ap (λ b. cond b (latched (power-lost-at k (r .planned))) (opened cap (r .view .table))) (le-ltb k (length (r .planned)) (omega arith))
@@ -77,13 +76,13 @@ module _ (shapes : ℕ → Shape) (S : Scheme) (w : World) (L : TreeLaws (shape-
         d : p ≡ writes 0
         d = cut-lost (w .board .power) p (length (r .planned)) k c i
 
-        at : (to-come (part .rest) ≡ some (place-of k (r .planned))) ⊎ ((newest (part .new) ≡ some (place-of k (r .planned))) × (Stands T S l′ (after-writes k (r .planned) (w .board) .memory) (place-of k (r .planned)) → ⊥)) → In-hand S T w′ (part .new) over l′ (power-lost-at k (r .planned))
-        at (inl u) = before-register (to-come-front (P .extra) (part .rest) (place-of k (r .planned)) u) d
+        at : ((to-come (part .rest) ≡ some (place-of k (r .planned))) × Way-stands T S l′ (after-writes k (r .planned) (w .board) .memory) (after-writes k (r .planned) (w .board) .register .dirty) (place-of k (r .planned)) × (counter-in l′ (place-of k (r .planned)) < T .limit (place-of k (r .planned)))) ⊎ ((newest (part .new) ≡ some (place-of k (r .planned))) × (Stands T S l′ (after-writes k (r .planned) (w .board) .memory) (place-of k (r .planned)) → ⊥)) → In-hand S T w′ (part .new) over l′ (power-lost-at k (r .planned))
+        at (inl u) = before-register (to-come-front (P .extra) (part .rest) (place-of k (r .planned)) (u .0)) (u .1) (u .2) d
         at (inr u) = before-line (u .0) (u .1) d
     in-hand y (inr (i, e)) = let (q, u, z) = reason i y e in at q u z
       where
         at : (q : ℕ) → to-come over ≡ some q → Reason shapes T L S l′ (record { memory = after-writes k (r .planned) (w .board) .memory; register = after-writes k (r .planned) (w .board) .register; table = r .view .table }) q y → In-hand S T w′ (part .new) over l′ y
-        at q u (inl (f, n)) = subst (In-hand S T w′ (part .new) over l′) (sym f) (limit-reached u n)
+        at q u (inl (f, m, n)) = subst (In-hand S T w′ (part .new) over l′) (sym f) (limit-reached u m n)
         at q u (inr (x, f, a, b, n, h)) = subst (In-hand S T w′ (part .new) over l′) (sym f) (corrupt-above u a b n h)
 
     latch : (y : Fault) → Ending y → ((y .cause ≡ power-lost) × (w′ .chip ≡ latched y)) ⊎ ((y .cause ≡ power-lost → ⊥) × ((t : Table) × (w′ .chip ≡ opened cap t)))
@@ -91,7 +90,7 @@ module _ (shapes : ℕ → Shape) (S : Scheme) (w : World) (L : TreeLaws (shape-
     latch y (inr (i, e)) = let (q, u, z) = reason i y e in inr (at z, (r .view .table, open-chip i))
       where
         at : {q : ℕ} → Reason shapes T L S l′ (record { memory = after-writes k (r .planned) (w .board) .memory; register = after-writes k (r .planned) (w .board) .register; table = r .view .table }) q y → y .cause ≡ power-lost → ⊥
-        at (inl (f, n)) h = let g : _≡_ {A = ℕ} 11 10 = ap number (ap (λ z. z .cause) (sym f) ∙ h) in omega arith
+        at (inl (f, _, _)) h = let g : _≡_ {A = ℕ} 11 10 = ap number (ap (λ z. z .cause) (sym f) ∙ h) in omega arith
         at (inr (x, f, _, _, _, _)) h = let g : _≡_ {A = ℕ} 8 10 = ap number (ap (λ z. z .cause) (sym f) ∙ h) in omega arith
 
     answered : ((n : ℕ) × (answer-of r k ≡ done n)) ⊎ ((y : Fault) × (n : ℕ) × (answer-of r k ≡ refused y n))

@@ -15,7 +15,7 @@ use Rattle.machine.specs.Layout.{Shape, TreeLaws, update}
 use Rattle.machine.specs.Store.{line-at, Log, Write, write-register, write-line, BoardState, after-write, after-writes, log-after, commits-in, place-of}
 use Rattle.machine.specs.Plans.{Table, View, commit-under}
 use Rattle.machine.specs.History.{counter-in, body-in, In-log}
-use Rattle.machine.specs.Laws.{Stands, Rests}
+use Rattle.machine.specs.Laws.{Way-stands, Stands, Rests}
 use Rattle.machine.specs.CommitLaws.{pending-in, to-come, newest, Checked, then}
 use Rattle.machine.proofs.Invariant.{Durable, Fine}
 use Rattle.machine.proofs.Basics.{update-same, update-other, some-inj, none≢some}
@@ -37,14 +37,16 @@ newest-front (x ∷ xs) ys q e = e
 
 module _ (shapes : ℕ → Shape) (T : Shape) (L : TreeLaws T) (S : Scheme) where
   -- What was committed and what is left, after k writes of a chain that leads from l to l′.
-  pub record Parts (ws : List Write) (l l′ : Log) (m : ℕ → Line) (k : ℕ) : Type 0 where
+  pub record Parts (ws : List Write) (l l′ : Log) (b : BoardState) (k : ℕ) : Type 0 where
     pub rest : Log
     pub new : Log
     pub before : l′ ≡ rest ++ log-after k ws l
     pub after : log-after k ws l ≡ new ++ l
     pub many : commits-in k ws ≡ length new
     pub whole : length ws ≤ k → rest ≡ []
-    pub hand : k < length ws → (to-come rest ≡ some (place-of k ws)) ⊎ ((newest new ≡ some (place-of k ws)) × (Stands T S (log-after k ws l) m (place-of k ws) → ⊥))
+    pub hand : k < length ws →
+        ((to-come rest ≡ some (place-of k ws)) × Way-stands T S (log-after k ws l) (b .memory) (b .register .dirty) (place-of k ws) × (counter-in (log-after k ws l) (place-of k ws) < T .limit (place-of k ws)))
+        ⊎ ((newest new ≡ some (place-of k ws)) × (Stands T S (log-after k ws l) (b .memory) (place-of k ws) → ⊥))
 
   -- A line journaled but not yet written does not stand.
   before-line : (l : Log) (v : View) → Open-holds shapes T S l v → (t : Table) (a c : ℕ) (b : Body) → Legal T S l v t a c b → v .memory a ≡ line-at T S a c b → ⊥
@@ -56,11 +58,11 @@ module _ (shapes : ℕ → Shape) (T : Shape) (L : TreeLaws T) (S : Scheme) wher
           let (d, u, _) = f c (g .young) (subst (λ z. right S a c z ≡ true) (sym e) (line-right T S a c b)) in
           omega (arith, w .durable .known a c d u .1, g .next)
 
-  pub parts : {Q : ℕ → Type 0} {v : View} {l : Log} {ws : List Write} {v′ : View} {l′ : Log} → Open-holds shapes T S l v → Trail T S Q v l ws v′ l′ → (b : BoardState) → b .memory ≡ v .memory → (k : ℕ) → Parts ws l l′ (after-writes k ws b .memory) k
+  pub parts : {Q : ℕ → Type 0} {v : View} {l : Log} {ws : List Write} {v′ : View} {l′ : Log} → Open-holds shapes T S l v → Trail T S Q v l ws v′ l′ → (b : BoardState) → b .memory ≡ v .memory → b .register ≡ v .register → (k : ℕ) → Parts ws l l′ (after-writes k ws b) k
   unfolding after-writes log-after commits-in place-of
-  parts w end b e k = record { rest = []; new = []; before = refl; after = refl; many = refl; whole = λ _. refl; hand = λ h. absurd (omega arith) }
-  parts {v = v} {l = l} {l′ = l′} w (step t a c y {ws = ws} q g x) b e zero =
-      let z = parts (after-line shapes T L S l v w t a c y g) x (after-write b (write-line a (line-at T S a c y))) (ap (λ m. update m a (line-at T S a c y)) e) 0 in
+  parts w end b e f k = record { rest = []; new = []; before = refl; after = refl; many = refl; whole = λ _. refl; hand = λ h. absurd (omega arith) }
+  parts {v = v} {l = l} {l′ = l′} w (step t a c y {ws = ws} q g x) b e f zero =
+      let z = parts (after-line shapes T L S l v w t a c y g) x (after-write (after-write b (write-register a (entry a c y ∷ []) (commit-under T S (v .memory) (v .register) t a y c .view .register))) (write-line a (line-at T S a c y))) (ap (λ m. update m a (line-at T S a c y)) e) refl 0 in
       record {
         rest = z .rest ++ (entry a c y ∷ []);
         new = [];
@@ -68,10 +70,14 @@ module _ (shapes : ℕ → Shape) (T : Shape) (L : TreeLaws T) (S : Scheme) wher
         after = refl;
         many = refl;
         whole = λ h. absurd (omega arith);
-        hand = λ _. inl (to-come-front (z .rest) (entry a c y ∷ []) a (to-come-one (entry a c y)));
+        hand = λ _. inl (to-come-front (z .rest) (entry a c y ∷ []) a (to-come-one (entry a c y)), λ u r d. stands u (g .way u (subst (λ h. Rests T (h .dirty) a u) f r)) d, omega (arith, g .next, g .young));
       }
-  parts {v = v} {l = l} {l′ = l′} w (step t a c y {ws = ws} q g x) b e (suc zero) =
-      let z = parts (after-line shapes T L S l v w t a c y g) x (after-write b (write-line a (line-at T S a c y))) (ap (λ m. update m a (line-at T S a c y)) e) 0 in
+    where
+      stands : (u : ℕ) → (u ≡ a) ⊎ Stands T S l (v .memory) u → (u ≡ a → ⊥) → Stands T S l (b .memory) u
+      stands u (inl h) d = absurd (d h)
+      stands u (inr h) d = ap (λ m. m u) e ∙ h
+  parts {v = v} {l = l} {l′ = l′} w (step t a c y {ws = ws} q g x) b e f (suc zero) =
+      let z = parts (after-line shapes T L S l v w t a c y g) x (after-write (after-write b (write-register a (entry a c y ∷ []) (commit-under T S (v .memory) (v .register) t a y c .view .register))) (write-line a (line-at T S a c y))) (ap (λ m. update m a (line-at T S a c y)) e) refl 0 in
       record {
         rest = z .rest;
         new = entry a c y ∷ [];
@@ -81,8 +87,8 @@ module _ (shapes : ℕ → Shape) (T : Shape) (L : TreeLaws T) (S : Scheme) wher
         whole = λ h. absurd (omega arith);
         hand = λ _. inr (refl, λ s. before-line l v w t a c y g (ap (λ m. m a) (sym e) ∙ s ∙ ap (λ n. line-at T S a n (body-in (entry a c y ∷ l) a)) (counter-new l (entry a c y) a refl) ∙ ap (line-at T S a c) (body-new l (entry a c y) a refl)));
       }
-  parts {v = v} {l = l} {l′ = l′} w (step t a c y {ws = ws} q g x) b e (suc (suc k)) =
-      let z = parts (after-line shapes T L S l v w t a c y g) x (after-write (after-write b (write-register a (entry a c y ∷ []) (commit-under T S (v .memory) (v .register) t a y c .view .register))) (write-line a (line-at T S a c y))) (ap (λ m. update m a (line-at T S a c y)) e) k in
+  parts {v = v} {l = l} {l′ = l′} w (step t a c y {ws = ws} q g x) b e f (suc (suc k)) =
+      let z = parts (after-line shapes T L S l v w t a c y g) x (after-write (after-write b (write-register a (entry a c y ∷ []) (commit-under T S (v .memory) (v .register) t a y c .view .register))) (write-line a (line-at T S a c y))) (ap (λ m. update m a (line-at T S a c y)) e) refl k in
       record {
         rest = z .rest;
         new = z .new ++ (entry a c y ∷ []);
@@ -90,7 +96,7 @@ module _ (shapes : ℕ → Shape) (T : Shape) (L : TreeLaws T) (S : Scheme) wher
         after = z .after ∙ sym (append-assoc (z .new) (entry a c y ∷ []) l);
         many = omega (arith, z .many, length-push (z .new) (entry a c y));
         whole = λ h. z .whole (omega arith);
-        hand = λ h. ⊎-elim inl (λ u. inr (newest-front (z .new) (entry a c y ∷ []) _ (u .0), u .1)) (z .hand (omega arith));
+        hand = λ h. ⊎-elim (λ u. inl u) (λ u. inr (newest-front (z .new) (entry a c y ∷ []) _ (u .0), u .1)) (z .hand (omega arith));
       }
 
   -- Two writes for each commit.

@@ -8,13 +8,14 @@ use native.Mathlib.Omega.{arith}
 use Rattle.std.proofs.shelf.Tests.{cases-lt, cases-eq}
 use Rattle.suite.specs.Scheme.{Body, Scheme}
 use Rattle.machine.specs.Layout.{Shape}
-use Rattle.machine.specs.Store.{line-at, Journal, Log}
+use Rattle.machine.specs.Store.{Journal, line-at, Log}
 use Rattle.machine.specs.Faults.{number, Fault, fault, too-many-dirty, corrupt, sum-mismatch, power-lost}
 use Rattle.machine.specs.Plans.{Table}
-use Rattle.machine.specs.History.{World, Chip, cold, opened, latched, done, refused, counter-in, body-in}
-use Rattle.machine.specs.Laws.{Stands, Recovery-rests}
-use Rattle.machine.specs.CommitLaws.{newest, Commit-law, Journal-power-lost, Bring-up-answers, pending-in, dirty-in, counters-in, with-next, Evicted, alone, parent-first, Evicted-until, enough, lowest-first, Written, under-root, leaf-dirty, leaf-not, leaf-overdue}
-use Rattle.machine.proofs.Cuts.{done≢refused}
+use Rattle.machine.specs.History.{refused, World, Chip, cold, opened, latched, done, counter-in, body-in}
+use Rattle.machine.specs.Laws.{Recovery-rests, Stands}
+use Rattle.machine.specs.CommitLaws.{newest, Commit-law, pending-in, counters-in, with-next, Evicted, alone, parent-first, Evicted-until, enough, lowest-first, Written, under-root, leaf-dirty, leaf-clean, leaf-overdue}
+use Rattle.machine.specs.Promises.{Bring-up-law, Powerless, Passes}
+use Rattle.machine.proofs.Cuts.{refused-inj, done≢refused}
 
 module _ (T : Shape) where
   not-both : (l : Log) (A : ℕ) → (T .parent A ≡ T .lines) ⊎ (pending-in T l (T .parent A) < 1023) → T .parent A < T .lines → 1023 ≤ pending-in T l (T .parent A) → ⊥
@@ -45,63 +46,26 @@ module _ (T : Shape) where
   pub written-one : {cap a : ℕ} {b : Body} {l j k : Log} → Written T cap a b l j → Written T cap a b l k → j ≡ k
   written-one (under-root x) (under-root y) = refl
   written-one (under-root x) (leaf-dirty y z u) = absurd (omega arith)
-  written-one (under-root x) (leaf-not y z f) = absurd (omega arith)
+  written-one (under-root x) (leaf-clean y z f) = absurd (omega arith)
   written-one (under-root x) (leaf-overdue y z o f) = absurd (omega arith)
   written-one (leaf-dirty y z u) (under-root x) = absurd (omega arith)
   written-one (leaf-dirty y z u) (leaf-dirty y′ z′ u′) = refl
-  written-one (leaf-dirty y z u) (leaf-not y′ z′ f) = absurd (omega arith)
+  written-one (leaf-dirty y z u) (leaf-clean y′ z′ f) = absurd (omega arith)
   written-one (leaf-dirty y z u) (leaf-overdue y′ z′ o f) = absurd (omega arith)
-  written-one (leaf-not y z f) (under-root x) = absurd (omega arith)
-  written-one (leaf-not y z f) (leaf-dirty y′ z′ u′) = absurd (omega arith)
-  written-one {a = a} {b = b} (leaf-not y z f) (leaf-not y′ z′ f′) = ap (λ i. with-next i a b) (freed-one f f′)
-  written-one (leaf-not y z f) (leaf-overdue y′ z′ o f′) = absurd (omega arith)
+  written-one (leaf-clean y z f) (under-root x) = absurd (omega arith)
+  written-one (leaf-clean y z f) (leaf-dirty y′ z′ u′) = absurd (omega arith)
+  written-one {a = a} {b = b} (leaf-clean y z f) (leaf-clean y′ z′ f′) = ap (λ i. with-next i a b) (freed-one f f′)
+  written-one (leaf-clean y z f) (leaf-overdue y′ z′ o f′) = absurd (omega arith)
   written-one (leaf-overdue y z o f) (under-root x) = absurd (omega arith)
   written-one (leaf-overdue y z o f) (leaf-dirty y′ z′ u′) = absurd (omega arith)
-  written-one (leaf-overdue y z o f) (leaf-not y′ z′ f′) = absurd (omega arith)
+  written-one (leaf-overdue y z o f) (leaf-clean y′ z′ f′) = absurd (omega arith)
   written-one {cap} {a} {b} {l} {j} {k} (leaf-overdue y z o f) (leaf-overdue {j = j′} y′ z′ o′ f′) = ap (λ i. with-next i a b) (freed-one f (subst (λ i. Evicted-until T (cap - 1) i j′) (out-one o′ o) f′))
 
-opened≢latched : {cap : ℕ} {t : Table} {r : Fault} → opened cap t ≡ latched r → ⊥
-opened≢latched {cap} {t} {r} e = subst code e tt
+-- A bring-up with slots enough is not refused for too many dirty nodes.
+pub not-too-many : (S : Scheme) (T : Shape) (cap num : ℕ) (w : World) (l : Log) (w′ : World) → Passes S T cap num l → Bring-up-law S T cap num w l (refused (fault too-many-dirty 0) 0) w′ → ⊥
+not-too-many S T cap num w l w′ u c = go (c .why u (fault too-many-dirty 0) refl)
   where
-    code : Chip → Type 0
-    code cold = ⊥
-    code (opened c u) = Unit {0}
-    code (latched y) = ⊥
-
-module _ (S : Scheme) (T : Shape) (cap : ℕ) (Full : Log → Log → Type 0) (w : World) (l : Log) where
-  -- A call that was done leaves the chip open.
-  pub no-latch : {n : ℕ} {w′ : World} {l′ : Log} {r : Fault} → Commit-law S T cap Full w l (done n) w′ l′ → w′ .chip ≡ latched r → ⊥
-  no-latch {n} c e = let (full, over, new, f, g, h, d, u) = c .begins in opened≢latched (sym (d n refl .2 .1) ∙ e)
-
-  -- And where the order leaves no choice, the law leaves none: one log, one memory.
-  module _ (one : (j k : Log) → Full l j → Full l k → j ≡ k) {n₁ n₂ : ℕ} {u v : World} {j k : Log} (C : Commit-law S T cap Full w l (done n₁) u j) (D : Commit-law S T cap Full w l (done n₂) v k) where
-    ends : {n : ℕ} {u : World} {j : Log} → Commit-law S T cap Full w l (done n) u j → Full l j
-    ends {n} {u} {j} c = let (full, over, new, f, g, h, d, x) = c .begins in subst (Full l) (g ∙ ap (λ z. z ++ j) (d n refl .1)) f
-
-    pub same-log : j ≡ k
-    same-log = one j k (ends C) (ends D)
-
-    pub same-memory : (q : ℕ) → u .board .memory q ≡ v .board .memory q
-    same-memory q = go (cases-eq (counter-in j q) (counter-in l q))
-      where
-        at : Stands T S j (u .board .memory) q ⊎ ((n : ℕ) × (done n₁ ≡ refused (fault power-lost q) n) × (newest j ≡ some q)) → Stands T S k (v .board .memory) q ⊎ ((n : ℕ) × (done n₂ ≡ refused (fault power-lost q) n) × (newest k ≡ some q)) → u .board .memory q ≡ v .board .memory q
-        at (inl x) (inl y) = x ∙ ap (λ z. line-at T S q (counter-in z q) (body-in z q)) same-log ∙ sym y
-        at (inl x) (inr y) = absurd (done≢refused (y .1))
-        at (inr x) y = absurd (done≢refused (x .1))
-
-        go : (counter-in j q ≡ counter-in l q) ⊎ (counter-in j q ≡ counter-in l q → ⊥) → u .board .memory q ≡ v .board .memory q
-        go (inl e) = C .untouched q e ∙ sym (D .untouched q (ap (λ z. counter-in z q) (sym same-log) ∙ e))
-        go (inr e) = at (C .stored q e) (D .stored q (λ f. e (ap (λ z. counter-in z q) same-log ∙ f)))
-
--- A bring-up with slots enough is not refused for want of slots.
-pub not-too-many : (S : Scheme) (T : Shape) (cap num : ℕ) (w : World) (l : Log) (w′ : World) → Bring-up-answers S T cap num w l (refused (fault too-many-dirty 0) 0) w′ → 1 ≤ cap → cap ≤ 64 → num ≡ S .number → dirty-in T l ≤ cap → ⊥
-not-too-many S T cap num w l w′ c h i e f = go (c .why h i e f (fault too-many-dirty 0) refl)
-  where
-    no-power-lost : (o : Option Journal) → Journal-power-lost w (fault too-many-dirty 0) o → ⊥
-    no-power-lost none x = x
-    no-power-lost (some n) x = let z : _≡_ {A = ℕ} 7 10 = ap (λ r. number (r .cause)) (x .0) in omega arith
-
-    go : Journal-power-lost w (fault too-many-dirty 0) (w .board .register .journal) ⊎ ((((q : ℕ) × (fault too-many-dirty 0 ≡ fault corrupt q) × Recovery-rests T (w .board .register .dirty) q) ⊎ (fault too-many-dirty 0 ≡ fault sum-mismatch 0)) × (((q : ℕ) → Recovery-rests T (w .board .register .dirty) q → Stands T S l (w′ .board .memory) q) → ⊥)) → ⊥
-    go (inl x) = no-power-lost (w .board .register .journal) x
-    go (inr (inl (q, x, _), _)) = let z : _≡_ {A = ℕ} 7 8 = ap (λ r. number (r .cause)) x in omega arith
-    go (inr (inr x, _)) = let z : _≡_ {A = ℕ} 7 9 = ap (λ r. number (r .cause)) x in omega arith
+    go : ((j : Journal) × Powerless S T w j) ⊎ (((q : ℕ) × (fault too-many-dirty 0 ≡ fault corrupt q) × Recovery-rests T (w .board .register .dirty) q) ⊎ (fault too-many-dirty 0 ≡ fault sum-mismatch 0)) → ⊥
+    go (inl (j, y)) = let z : _≡_ {A = ℕ} 7 10 = ap (λ r. number (r .cause)) (refused-inj (c .powerless u j y) .0) in omega arith
+    go (inr (inl (q, x, _))) = let z : _≡_ {A = ℕ} 7 8 = ap (λ r. number (r .cause)) x in omega arith
+    go (inr (inr x)) = let z : _≡_ {A = ℕ} 7 9 = ap (λ r. number (r .cause)) x in omega arith

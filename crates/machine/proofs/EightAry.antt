@@ -6,8 +6,7 @@ use native.Mathlib.Omega.{arith}
 use lib.Dec.{ltb}
 use Rattle.std.proofs.shelf.Tests.{lt-ltb, le-ltb, ltb-true, ltb-false}
 use Rattle.machine.specs.Layout.{TreeLaws, eight-ary, lines-of, depth-by}
-use Rattle.machine.specs.Promises.{History-holds}
-use Rattle.machine.proofs.HistoryHolds.{keeps-promises}
+use Rattle.machine.specs.Promises.{Tree-layouts}
 
 -- f steps up from a line.
 abbrev pub climb : (ℕ → ℕ) → ℕ → ℕ → ℕ
@@ -45,14 +44,10 @@ tree-of f m e s c =
       depth-parent = λ a k. depth-step (λ x. 8 ^ suc f + x / 8) (lines-of (suc f)) f a k (c a);
     }
 
-pub eight-trees : (h : ℕ) → 1 ≤ h → h ≤ 4 → TreeLaws (eight-ary h)
+pub eight-trees : Tree-layouts eight-ary
 eight-trees zero k j = absurd (omega arith)
 eight-trees (suc zero) k j = tree-of 0 1 refl refl (λ a. omega arith)
 eight-trees (suc (suc zero)) k j = tree-of 1 8 refl refl (λ a. omega arith)
 eight-trees (suc (suc (suc zero))) k j = tree-of 2 64 refl refl (λ a. omega arith)
 eight-trees (suc (suc (suc (suc zero)))) k j = tree-of 3 512 refl refl (λ a. omega arith)
 eight-trees (suc (suc (suc (suc (suc h))))) k j = absurd (omega arith)
-
--- The theorem, for the boards of one to four levels.
-pub history-holds : History-holds
-history-holds = keeps-promises eight-ary eight-trees

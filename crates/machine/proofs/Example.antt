@@ -28,10 +28,10 @@ l₁ = log-after 9 (format-writes (eight-ary 1) S 1) []
 abbrev w₂ : World
 w₂ = record { board = after (w₁ .board) 0 [] endless; chip = opened 1 (λ p. none) }
 
-abbrev w₃ : World
+abbrev pub w₃ : World
 w₃ = record { board = after (w₂ .board) 2 (write-call (eight-ary 1) S 1 (view-of (w₂ .board) (λ p. none)) 3 (one-word 7) .planned) endless; chip = opened 1 (λ p. none) }
 
-abbrev l₃ : Log
+abbrev pub l₃ : Log
 l₃ = log-after 2 (write-call (eight-ary 1) S 1 (view-of (w₂ .board) (λ p. none)) 3 (one-word 7) .planned) l₁
 
 s₁ : Step eight-ary S w₀ [] (format 1) (done 0) w₁ l₁

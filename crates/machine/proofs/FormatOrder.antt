@@ -12,16 +12,17 @@ use Rattle.std.proofs.shelf.Tests.{ltb-true, ltb-false, lt-ltb, le-ltb, cases-l
 use Rattle.std.proofs.shelf.Lists.{length-append}
 use Rattle.suite.specs.Scheme.{Line, Scheme}
 use Rattle.board.specs.Meaning.{Power, writes}
-use Rattle.machine.specs.Layout.{Shape, update}
+use Rattle.machine.specs.Layout.{TreeLaws, Shape, update}
 use Rattle.machine.specs.Store.{line-at, Log, Write, write-register, write-line, BoardState, after-write, after-writes, log-after, place-of, Cut}
 use Rattle.machine.specs.Faults.{Fault, fault, bad-size, too-few-lines, already-formatted, power-lost}
-use Rattle.machine.specs.Plans.{blank-lines, blank-log, new-register, format-writes}
+use Rattle.machine.specs.Plans.{new-register, blank-lines, blank-log, format-writes}
 use Rattle.machine.specs.History.{World, cold, Answer, done, refused, power-lost-at, after, format-check, Formatted}
-use Rattle.machine.specs.Promises.{Unchanged, Format-order}
+use Rattle.machine.specs.Laws.{Unchanged, No-reuse}
+use Rattle.machine.specs.Promises.{Format-law}
 use Rattle.machine.proofs.Basics.{update-same, update-other, some-inj, none≢some, upto}
 use Rattle.machine.proofs.BoardHolds.{Board-holds}
 use Rattle.machine.proofs.Cuts.{after-writes-front, after-writes-back, cut-le, cut-lost, refused-inj, done≢refused}
-use Rattle.machine.proofs.Formatting.{blank-length, fresh-length, format-length, cut-short, all-done, format-may}
+use Rattle.machine.proofs.Formatting.{format-holds, blank-length, fresh-length, format-length, cut-short, all-done, format-may}
 
 place-front : (ws us : List Write) (k : ℕ) → k < length ws → place-of k (ws ++ us) ≡ place-of k ws
 unfolding place-of
@@ -74,31 +75,31 @@ module _ (T : Shape) (S : Scheme) where
             λ q i. update-other (after-writes (length (blank-lines T S n)) (blank-lines T S n) b .memory) n _ q (λ f. omega arith) ∙ u q (omega arith),
           )
 
-  abbrev lone : ℕ → List Write
-  lone h = write-register 0 (blank-log (T .lines)) (new-register S h) ∷ []
+  abbrev last-write : ℕ → List Write
+  last-write h = write-register 0 (blank-log (T .lines)) (new-register S h) ∷ []
 
   format-place : (h k : ℕ) → k ≤ T .lines → place-of k (format-writes T S h) ≡ cond (ltb k (T .lines)) k 0
   unfolding format-writes place-of
   format-place h k i = go (cases-lt k (T .lines))
     where
-      go : (k < T .lines) ⊎ (T .lines ≤ k) → place-of k (blank-lines T S (T .lines) ++ lone h) ≡ cond (ltb k (T .lines)) k 0
-      go (inl y) = place-front (blank-lines T S (T .lines)) (lone h) k (omega (arith, blank-length T S (T .lines))) ∙ blank-place (T .lines) k y ∙ sym (ap (λ b. cond b k 0) (lt-ltb k (T .lines) y))
+      go : (k < T .lines) ⊎ (T .lines ≤ k) → place-of k (blank-lines T S (T .lines) ++ last-write h) ≡ cond (ltb k (T .lines)) k 0
+      go (inl y) = place-front (blank-lines T S (T .lines)) (last-write h) k (omega (arith, blank-length T S (T .lines))) ∙ blank-place (T .lines) k y ∙ sym (ap (λ b. cond b k 0) (lt-ltb k (T .lines) y))
       go (inr y) =
           let e : k ≡ length (blank-lines T S (T .lines)) + 0 = omega (arith, blank-length T S (T .lines)) in
-          ap (λ z. place-of z (blank-lines T S (T .lines) ++ lone h)) e ∙ place-back (blank-lines T S (T .lines)) (lone h) 0 ∙ sym (ap (λ b. cond b k 0) (le-ltb k (T .lines) y))
+          ap (λ z. place-of z (blank-lines T S (T .lines) ++ last-write h)) e ∙ place-back (blank-lines T S (T .lines)) (last-write h) 0 ∙ sym (ap (λ b. cond b k 0) (le-ltb k (T .lines) y))
 
   format-cut : (h k : ℕ) (b : BoardState) → k ≤ T .lines → Cut-mem k (b .memory) (after-writes k (format-writes T S h) b .memory)
   unfolding format-writes
-  format-cut h k b i = subst (λ z. Cut-mem k (b .memory) (z .memory)) (sym (after-writes-front (blank-lines T S (T .lines)) (lone h) k b (omega (arith, blank-length T S (T .lines))))) (blank-cut (T .lines) k b i)
+  format-cut h k b i = subst (λ z. Cut-mem k (b .memory) (z .memory)) (sym (after-writes-front (blank-lines T S (T .lines)) (last-write h) k b (omega (arith, blank-length T S (T .lines))))) (blank-cut (T .lines) k b i)
 
   format-over : (h k : ℕ) (b : BoardState) → k ≡ suc (T .lines) → (q : ℕ) → T .lines ≤ q → after-writes k (format-writes T S h) b .memory q ≡ b .memory q
   unfolding format-writes after-writes
   format-over h k b e q i =
       let f : k ≡ length (blank-lines T S (T .lines)) + 1 = omega (arith, blank-length T S (T .lines)) in
-      ap (λ z. after-writes z (blank-lines T S (T .lines) ++ lone h) b .memory q) f ∙ ap (λ z. z .memory q) (after-writes-back (blank-lines T S (T .lines)) (lone h) 1 b)
+      ap (λ z. after-writes z (blank-lines T S (T .lines) ++ last-write h) b .memory q) f ∙ ap (λ z. z .memory q) (after-writes-back (blank-lines T S (T .lines)) (last-write h) 1 b)
       ∙ ap (λ z. after-writes z (blank-lines T S (T .lines)) b .memory q) (blank-length T S (T .lines)) ∙ blank-cut (T .lines) (T .lines) b (omega arith) .1 q i
 
-module _ (shapes : ℕ → Shape) (S : Scheme) (h : ℕ) (w : World) (l : Log) (H : Board-holds shapes S (w .board) l) (x : Answer) (w′ : World) (l′ : Log) (B : Formatted shapes S h (w .board) (format-check shapes h (w .board)) l x w′ l′) where
+module _ (shapes : ℕ → Shape) (S : Scheme) (h : ℕ) (w : World) (l : Log) (H : Board-holds shapes S (w .board) l) (O : No-reuse l) (laws : (h : ℕ) → 1 ≤ h → h ≤ 4 → TreeLaws (shapes h)) (x : Answer) (w′ : World) (l′ : Log) (B : Formatted shapes S h (w .board) (format-check shapes h (w .board)) l x w′ l′) where
   abbrev ws : List Write
   ws = format-writes (shapes h) S h
 
@@ -167,8 +168,7 @@ module _ (shapes : ℕ → Shape) (S : Scheme) (h : ℕ) (w : World) (l : Log) (
 
   abbrev Blank : Type 0
   Blank =
-      (w′ .board .register .formatted ≡ 1) × (w′ .board .register .levels ≡ h) × (w′ .board .register .suite ≡ S .number) × ((i : ℕ) → w′ .board .register .roots i ≡ 0) × (w′ .board .register .dirty-sum ≡ 0) × (w′ .board .register .journal ≡ none) × ((p : ℕ) → w′ .board .register .dirty p ≡ false)
-      × (length l′ ≡ shapes h .lines) × ((q : ℕ) → q < shapes h .lines → w′ .board .memory q ≡ line-at (shapes h) S q 0 (λ i. 0)) × ((q : ℕ) → shapes h .lines ≤ q → w′ .board .memory q ≡ w .board .memory q)
+      (w′ .board .register ≡ new-register S h) × (length l′ ≡ shapes h .lines) × ((q : ℕ) → shapes h .lines ≤ q → w′ .board .memory q ≡ w .board .memory q)
 
   blank-left : x ≡ done 0 → Blank
   blank-left f = go (format-check shapes h (w .board)) refl B
@@ -184,17 +184,9 @@ module _ (shapes : ℕ → Shape) (S : Scheme) (h : ℕ) (w : World) (l : Log) (
       cut e k p true g c ex ew el = absurd (done≢refused (sym f ∙ ex))
       cut e k p false g c ex ew el =
           let i : k ≡ length ws = omega (arith, ltb-false _ _ g, cut-le (w .board .power) p (length ws) k c) in
-          let (u, v, m) = all-done shapes S h (w .board) k i in
-          let r : w′ .board .register ≡ new-register S h = ap (λ z. z .board .register) ew ∙ u in (
-            ap (λ z. z .formatted) r,
-            ap (λ z. z .levels) r,
-            ap (λ z. z .suite) r,
-            λ j. ap (λ z. z .roots j) r,
-            ap (λ z. z .dirty-sum) r,
-            ap (λ z. z .journal) r,
-            λ j. ap (λ z. z .dirty j) r,
+          let (u, v, m) = all-done shapes S h (w .board) k i in (
+            ap (λ z. z .board .register) ew ∙ u,
             ap length (el ∙ ap (log-after k ws) (empty e) ∙ v) ∙ fresh-length (shapes h) S (shapes h .lines),
-            λ q a. ap (λ z. z .board .memory q) ew ∙ m q a,
             λ q a. ap (λ z. z .board .memory q) ew ∙ format-over (shapes h) S h k (w .board) (i ∙ format-length shapes S h (w .board)) q a,
           )
 
@@ -202,15 +194,19 @@ module _ (shapes : ℕ → Shape) (S : Scheme) (h : ℕ) (w : World) (l : Log) (
       go (some r) e (ex, ew, el) = absurd (done≢refused (sym f ∙ ex))
       go none e (k, p, c, ex, ew, el) = cut e k p (ltb k (length ws)) refl c ex ew el
 
-  pub format-order : Format-order shapes S h w l x w′ l′
+  pub format-law : Format-law S (shapes h) h w l x w′ l′
   unfolding format-check
-  format-order =
+  format-law =
       record {
         answers = answers;
-        goes-cold = goes-cold;
-        levels = λ i. early (fault bad-size 0) (rw (levels-err i));
-        short = λ i j f. early (fault too-few-lines 0) (rw (levels-ok i j, lt-leb (shapes h .lines) (w .board .size) f));
+        leaves = goes-cold;
+        bad-levels = λ i. early (fault bad-size 0) (rw (levels-err i));
+        too-few = λ i j f. early (fault too-few-lines 0) (rw (levels-ok i j, lt-leb (shapes h .lines) (w .board .size) f));
         twice = λ i j f n. early (fault already-formatted 0) (rw (levels-ok i j, le-leb (shapes h .lines) (w .board .size) f, ne-eqb (w .board .register .formatted) 0 n));
-        loses-power = λ i j f n. goes-lost (rw (levels-ok i j, le-leb (shapes h .lines) (w .board .size) f, eq-eqb (w .board .register .formatted) 0 n));
-        blank = blank-left;
+        powerless = λ i j f n. goes-lost (rw (levels-ok i j, le-leb (shapes h .lines) (w .board .size) f, eq-eqb (w .board .register .formatted) 0 n));
+        committed = λ f. (blank-left f .1, format-holds shapes S laws h w l H O x w′ l′ B .3 f, blank-left f .2);
+        blank =
+            λ f.
+            let r = blank-left f .0 in
+            (ap (λ z. z .formatted) r, ap (λ z. z .levels) r, ap (λ z. z .suite) r, λ i. ap (λ z. z .roots i) r, ap (λ z. z .dirty-sum) r, ap (λ z. z .journal) r, λ p. ap (λ z. z .dirty p) r);
       }

@@ -11,13 +11,13 @@ use lib.ListN.{length}
 use Rattle.std.proofs.shelf.Tests.{ltb-true, ltb-false, cases-lt, cases-eq, leb-true, leb-false, eqb-true, eqb-false, and-parts, and-cases}
 use Rattle.std.proofs.shelf.Lists.{length-append, append-nil}
 use Rattle.suite.specs.Scheme.{Body, Line, Scheme}
-use Rattle.board.specs.Meaning.{Power, writes}
+use Rattle.board.specs.Meaning.{Power}
 use Rattle.machine.specs.Layout.{Shape, TreeLaws, update}
 use Rattle.machine.specs.Store.{line-at, Log, Write, write-register, write-line, BoardState, after-write, after-writes, log-after, Cut}
-use Rattle.machine.specs.Faults.{Fault, fault, bad-size, too-few-lines, already-formatted, power-lost}
+use Rattle.machine.specs.Faults.{Fault, fault, bad-size, too-few-lines, already-formatted}
 use Rattle.machine.specs.Plans.{blank-lines, blank-log, new-register, format-writes}
-use Rattle.machine.specs.History.{World, cold, Answer, done, refused, power-lost-at, after, counter-in, body-in, In-log, format-check, Formatted}
-use Rattle.machine.specs.Laws.{Stands, No-reuse, Format-law}
+use Rattle.machine.specs.History.{done, body-in, counter-in, World, cold, Answer, refused, power-lost-at, after, In-log, format-check, Formatted}
+use Rattle.machine.specs.Laws.{Stands, No-reuse}
 use Rattle.machine.specs.CommitLaws.{pending-in, Journal-law}
 use Rattle.machine.proofs.Pending.{pending-own, pending-other}
 use Rattle.machine.proofs.Invariant.{Durable}
@@ -151,25 +151,6 @@ module _ (T : Shape) (S : Scheme) where
       }
 
 -- What a check of format says.
-pub format-why : (shapes : ℕ → Shape) (S : Scheme) (h : ℕ) (b : BoardState) (r : Fault) → format-check shapes h b ≡ some r → ((r ≡ fault bad-size 0) × ((h < 1) ⊎ (4 < h))) ⊎ (((r ≡ fault too-few-lines 0) × (b .size < shapes h .lines)) ⊎ ((r ≡ fault already-formatted 0) × (b .register .formatted ≡ 0 → ⊥)))
-unfolding format-check
-format-why shapes S h b r e = one (leb 1 h && leb h 4) refl e
-  where
-    Why : Type 0
-    Why = ((r ≡ fault bad-size 0) × ((h < 1) ⊎ (4 < h))) ⊎ (((r ≡ fault too-few-lines 0) × (b .size < shapes h .lines)) ⊎ ((r ≡ fault already-formatted 0) × (b .register .formatted ≡ 0 → ⊥)))
-
-    three : (d : Bool) → eqb (b .register .formatted) 0 ≡ d → cond d none (some (fault already-formatted 0)) ≡ some r → Why
-    three true f e = absurd (none≢some e)
-    three false f e = inr (inr (sym (some-inj e), eqb-false _ _ f))
-
-    two : (d : Bool) → leb (shapes h .lines) (b .size) ≡ d → cond d (cond (eqb (b .register .formatted) 0) none (some (fault already-formatted 0))) (some (fault too-few-lines 0)) ≡ some r → Why
-    two true f e = three (eqb (b .register .formatted) 0) refl e
-    two false f e = inr (inl (sym (some-inj e), leb-false _ _ f))
-
-    one : (d : Bool) → (leb 1 h && leb h 4) ≡ d → cond d (cond (leb (shapes h .lines) (b .size)) (cond (eqb (b .register .formatted) 0) none (some (fault already-formatted 0))) (some (fault too-few-lines 0))) (some (fault bad-size 0)) ≡ some r → Why
-    one true f e = two (leb (shapes h .lines) (b .size)) refl e
-    one false f e = inl (sym (some-inj e), ⊎-elim (λ z. inl (leb-false _ _ z)) (λ z. inr (leb-false _ _ z)) (and-cases _ _ f))
-
 pub format-may : (shapes : ℕ → Shape) (S : Scheme) (h : ℕ) (b : BoardState) → format-check shapes h b ≡ none → (1 ≤ h) × (h ≤ 4) × (shapes h .lines ≤ b .size) × (b .register .formatted ≡ 0)
 unfolding format-check
 format-may shapes S h b e = one (leb 1 h && leb h 4) refl e
@@ -196,30 +177,30 @@ module _ (shapes : ℕ → Shape) (S : Scheme) (h : ℕ) (b : BoardState) where
   abbrev ws : List Write
   ws = format-writes T S h
 
-  abbrev lone : List Write
-  lone = write-register 0 (blank-log (T .lines)) (new-register S h) ∷ []
+  abbrev last-write : List Write
+  last-write = write-register 0 (blank-log (T .lines)) (new-register S h) ∷ []
 
   pub format-length : length ws ≡ suc (T .lines)
   unfolding format-writes
-  format-length = omega (arith, length-append (blank-lines T S (T .lines)) lone, blank-length T S (T .lines))
+  format-length = omega (arith, length-append (blank-lines T S (T .lines)) last-write, blank-length T S (T .lines))
 
   -- A format cut short leaves the register and the log.
   pub cut-short : (k : ℕ) → k < length ws → (l : Log) → (after-writes k ws b .register ≡ b .register) × (log-after k ws l ≡ l)
   unfolding format-writes
   cut-short k i l =
-      let j : k ≤ length (blank-lines T S (T .lines)) = omega (arith, i, length-append (blank-lines T S (T .lines)) lone) in (
-        ap (λ z. z .register) (after-writes-front (blank-lines T S (T .lines)) lone k b j) ∙ plain-register (blank-lines T S (T .lines)) (blank-plain T S (T .lines)) k b,
-        log-front (blank-lines T S (T .lines)) lone k l j ∙ plain-log (blank-lines T S (T .lines)) (blank-plain T S (T .lines)) k l,
+      let j : k ≤ length (blank-lines T S (T .lines)) = omega (arith, i, length-append (blank-lines T S (T .lines)) last-write) in (
+        ap (λ z. z .register) (after-writes-front (blank-lines T S (T .lines)) last-write k b j) ∙ plain-register (blank-lines T S (T .lines)) (blank-plain T S (T .lines)) k b,
+        log-front (blank-lines T S (T .lines)) last-write k l j ∙ plain-log (blank-lines T S (T .lines)) (blank-plain T S (T .lines)) k l,
       )
 
   -- A whole one writes both.
   pub all-done : (k : ℕ) → k ≡ length ws → (after-writes k ws b .register ≡ new-register S h) × (log-after k ws [] ≡ blank-log (T .lines)) × ((a : ℕ) → a < T .lines → after-writes k ws b .memory a ≡ line-at T S a 0 (λ i. 0))
   unfolding format-writes after-writes log-after
   all-done k i =
-      let e : k ≡ length (blank-lines T S (T .lines)) + 1 = omega (arith, i, length-append (blank-lines T S (T .lines)) lone) in
-      let p : after-writes k ws b ≡ after-write (after-writes (length (blank-lines T S (T .lines))) (blank-lines T S (T .lines)) b) (write-register 0 (blank-log (T .lines)) (new-register S h)) = ap (λ z. after-writes z ws b) e ∙ after-writes-back (blank-lines T S (T .lines)) lone 1 b in (
+      let e : k ≡ length (blank-lines T S (T .lines)) + 1 = omega (arith, i, length-append (blank-lines T S (T .lines)) last-write) in
+      let p : after-writes k ws b ≡ after-write (after-writes (length (blank-lines T S (T .lines))) (blank-lines T S (T .lines)) b) (write-register 0 (blank-log (T .lines)) (new-register S h)) = ap (λ z. after-writes z ws b) e ∙ after-writes-back (blank-lines T S (T .lines)) last-write 1 b in (
         ap (λ z. z .register) p,
-        ap (λ z. log-after z ws []) e ∙ log-back (blank-lines T S (T .lines)) lone 1 [] ∙ ap (λ z. blank-log (T .lines) ++ z) (plain-log (blank-lines T S (T .lines)) (blank-plain T S (T .lines)) (length (blank-lines T S (T .lines))) []) ∙ append-nil (blank-log (T .lines)),
+        ap (λ z. log-after z ws []) e ∙ log-back (blank-lines T S (T .lines)) last-write 1 [] ∙ ap (λ z. blank-log (T .lines) ++ z) (plain-log (blank-lines T S (T .lines)) (blank-plain T S (T .lines)) (length (blank-lines T S (T .lines))) []) ∙ append-nil (blank-log (T .lines)),
         λ a j. ap (λ z. z .memory a) p ∙ blank-mem T S (T .lines) b a j,
       )
 
@@ -231,8 +212,12 @@ module _ (shapes : ℕ → Shape) (S : Scheme) (laws : (h : ℕ) → 1 ≤ h →
   b : BoardState
   b = w .board
 
+  -- Every line was committed with zeros under counter 0, and stands.
+  abbrev Zeros : Answer → World → Log → Type 0
+  Zeros x w′ l′ = x ≡ done 0 → (a : ℕ) → a < shapes h .lines → (counter-in l′ a ≡ 0) × (body-in l′ a ≡ λ i. 0) × Stands (shapes h) S l′ (w′ .board .memory) a
+
   abbrev Result : Answer → World → Log → Type 0
-  Result x w′ l′ = (w′ .chip ≡ cold) × Board-holds shapes S (w′ .board) l′ × No-reuse l′ × Format-law shapes S w l h x w′ l′
+  Result x w′ l′ = (w′ .chip ≡ cold) × Board-holds shapes S (w′ .board) l′ × No-reuse l′ × Zeros x w′ l′
 
   -- A fault before any write.
   early : (r : Fault) → format-check shapes h (w .board) ≡ some r → Result (refused r 0) (record { board = w .board; chip = cold }) l
@@ -240,20 +225,8 @@ module _ (shapes : ℕ → Shape) (S : Scheme) (laws : (h : ℕ) → 1 ≤ h →
     refl,
     H,
     O,
-    record {
-      makes = λ n f. absurd (done≢refused (sym f));
-      zeros = λ n f. absurd (done≢refused (sym f));
-      why = λ y n f. (refl, subst (λ z. Why z) (refused-inj f .0) (at (format-why shapes S h (w .board) r e)));
-    },
+    λ f. absurd (done≢refused (sym f)),
   )
-    where
-      Why : Fault → Type 0
-      Why r = ((r ≡ fault bad-size 0) × ((h < 1) ⊎ (4 < h))) ⊎ (((r ≡ fault too-few-lines 0) × (w .board .size < shapes h .lines)) ⊎ (((r ≡ fault already-formatted 0) × (w .board .register .formatted ≡ 0 → ⊥)) ⊎ ((r .cause ≡ power-lost) × (w .board .power ≡ writes 0))))
-
-      at : ((r ≡ fault bad-size 0) × ((h < 1) ⊎ (4 < h))) ⊎ (((r ≡ fault too-few-lines 0) × (w .board .size < shapes h .lines)) ⊎ ((r ≡ fault already-formatted 0) × (w .board .register .formatted ≡ 0 → ⊥))) → Why r
-      at (inl z) = inl z
-      at (inr (inl z)) = inr (inl z)
-      at (inr (inr z)) = inr (inr (inl z))
 
   module _ (may : format-check shapes h (w .board) ≡ none) (k : ℕ) (p : Power) (c : Cut (w .board .power) (length (format-writes (shapes h) S h)) k p) where
     empty : l ≡ []
@@ -272,11 +245,7 @@ module _ (shapes : ℕ → Shape) (S : Scheme) (laws : (h : ℕ) → 1 ≤ h →
           refl,
           inl (ap (λ z. z .formatted) g ∙ format-may shapes S h (w .board) may .3, e ∙ empty),
           subst No-reuse (sym e) O,
-          record {
-            makes = λ n f. absurd (done≢refused (sym f));
-            zeros = λ n f. absurd (done≢refused (sym f));
-            why = λ y n f. (e, inr (inr (inr (ap (λ z. z .cause) (sym (refused-inj f .0)), cut-lost (w .board .power) p _ k c i))));
-          },
+          λ f. absurd (done≢refused (sym f)),
         )
 
     whole : k ≡ length (format-writes (shapes h) S h) → Result (done 0) (record { board = after (w .board) k (format-writes (shapes h) S h) p; chip = cold }) (log-after k (format-writes (shapes h) S h) l)
@@ -291,11 +260,7 @@ module _ (shapes : ℕ → Shape) (S : Scheme) (laws : (h : ℕ) → 1 ≤ h →
             rw (g, f) (record { durable = fresh-durable (shapes h) S (laws h lo hi) (laws h lo hi .some-lines) h; fine = λ q j _. inl (st q j) }),
           ),
           subst No-reuse (sym f) (fresh-once (shapes h) S (shapes h .lines)),
-          record {
-            makes = λ n z. (un, ap (λ y. y .formatted) g, ap (λ y. y .levels) g);
-            zeros = λ n z a j. rw f (fresh-counter (shapes h) S (shapes h .lines) a, fresh-body (shapes h) S (shapes h .lines) a, st a j);
-            why = λ y n z. absurd (done≢refused z);
-          },
+          λ z a j. rw f (fresh-counter (shapes h) S (shapes h .lines) a, fresh-body (shapes h) S (shapes h .lines) a, st a j),
         )
 
   pub format-holds : (x : Answer) (w′ : World) (l′ : Log) → Formatted shapes S h (w .board) (format-check shapes h (w .board)) l x w′ l′ → Result x w′ l′

@@ -15,24 +15,23 @@ use Rattle.machine.specs.Store.{line-at, Register, Log, BoardState, after-writ
 use Rattle.machine.specs.Faults.{fault, not-data}
 use Rattle.machine.specs.Plans.{Table, View, Run, stop, write-at, write-call, flush-call, dirty-count}
 use Rattle.machine.specs.History.{Chip, cold, opened, latched, World, Event, format, bring-up, read, write, flush, shut-down, tamper, recharge, Answer, power-lost-at, after, view-of, counter-in, body-in, shape-of, Ran, Happens, Fair, Replayed, Reached, start, next}
-use Rattle.machine.specs.Laws.{No-reuse, Within}
+use Rattle.machine.specs.Laws.{No-reuse, Unchanged}
 use Rattle.machine.specs.CommitLaws.{Slots-law}
-use Rattle.machine.specs.Promises.{Register-says, Unchanged, Law, Keeps-promises}
+use Rattle.machine.specs.Promises.{Within, Register-says, Law, Keeps-promises, Tree-layouts}
 use Rattle.machine.proofs.Invariant.{Durable, Fine, Slots-hold}
 use Rattle.machine.proofs.Basics.{update-same, update-other}
-use Rattle.machine.proofs.Trails.{Trail, end, Open-holds, Cold-holds, warm-cool, warm-trail, after-writes-all, after-writes-some, once-some, Same-board, register-kept}
+use Rattle.machine.proofs.Trails.{Trail, end, Open-holds, Cold-holds, open-to-cold, open-after, after-writes-all, after-writes-some, once-some, Same-board, register-kept}
 use Rattle.machine.proofs.Runs.{Goes, Node, Wrote, wrote, flush-goes}
 use Rattle.machine.proofs.Cuts.{cut-le}
 use Rattle.machine.proofs.BoardHolds.{Formatted-board, Board-holds, Holds}
-use Rattle.machine.proofs.WriteLaws.{touched, write-law, flush-law}
-use Rattle.machine.proofs.ReadLaws.{read-law, highest}
+use Rattle.machine.proofs.WriteLaws.{touched, write-part, flush-part}
+use Rattle.machine.proofs.ReadLaws.{read-law}
 use Rattle.machine.proofs.Formatting.{format-holds}
 use Rattle.machine.proofs.BringUp.{bring-up-holds}
 use Rattle.machine.proofs.SlotTable.{write-used, until-used}
-use Rattle.machine.proofs.OneCommit.{one-commit}
 use Rattle.machine.proofs.CommitLawHolds.{write-commits, write-beyond, flush-commits}
-use Rattle.machine.proofs.BringUpAnswers.{bring-up-order}
-use Rattle.machine.proofs.FormatOrder.{format-order}
+use Rattle.machine.proofs.BringUpAnswers.{bring-up-law}
+use Rattle.machine.proofs.FormatOrder.{format-law}
 use Rattle.machine.proofs.RegisterSays.{register-says, slots}
 
 module _ (shapes : ℕ → Shape) (S : Scheme) where
@@ -66,8 +65,8 @@ module _ (shapes : ℕ → Shape) (S : Scheme) where
         shape : (j : ℕ) → shapes (b .register .levels) ≡ shapes (after-writes j (r .planned) b .register .levels)
         shape j = ap shapes (sym (same j .1))
 
-        warm : Open-holds shapes (shape-of shapes b) S (log-after (length (r .planned)) (r .planned) l) (record { memory = after-writes (length (r .planned)) (r .planned) b .memory; register = after-writes (length (r .planned)) (r .planned) b .register; table = r .view .table })
-        warm = let (m, g, e) = after-writes-all shapes (shape-of shapes b) L S tr b refl refl in rw (m, g, e) (warm-trail shapes (shape-of shapes b) L S W tr)
+        still-open : Open-holds shapes (shape-of shapes b) S (log-after (length (r .planned)) (r .planned) l) (record { memory = after-writes (length (r .planned)) (r .planned) b .memory; register = after-writes (length (r .planned)) (r .planned) b .register; table = r .view .table })
+        still-open = let (m, g, e) = after-writes-all shapes (shape-of shapes b) L S tr b refl refl in rw (m, g, e) (open-after shapes (shape-of shapes b) L S W tr)
 
         at : (d : Bool) → ltb k (length (r .planned)) ≡ d → Holds shapes S (cond d (latched (power-lost-at k (r .planned))) (opened cap (r .view .table))) (after b k (r .planned) p) (log-after k (r .planned) l)
         at true e =
@@ -79,7 +78,7 @@ module _ (shapes : ℕ → Shape) (S : Scheme) where
             let i : length (r .planned) ≡ k = omega (arith, ltb-false _ _ e, cut-le (b .power) p (length (r .planned)) k c) in (
               safe-on (b .size) (b .register) (after-writes k (r .planned) b .register) (same k) s,
               subst (λ T. Open-holds shapes T S (log-after k (r .planned) l) (record { memory = after-writes k (r .planned) b .memory; register = after-writes k (r .planned) b .register; table = r .view .table })) (shape k)
-                  (subst (λ j. Open-holds shapes (shape-of shapes b) S (log-after j (r .planned) l) (record { memory = after-writes j (r .planned) b .memory; register = after-writes j (r .planned) b .register; table = r .view .table })) i warm),
+                  (subst (λ j. Open-holds shapes (shape-of shapes b) S (log-after j (r .planned) l) (record { memory = after-writes j (r .planned) b .memory; register = after-writes j (r .planned) b .register; table = r .view .table })) i still-open),
               cl,
               ch,
               subst (λ T. dirty-count T (r .view .table) ≤ cap) (shape k) us,
@@ -142,7 +141,7 @@ module _ (shapes : ℕ → Shape) (S : Scheme) where
     keeps (opened cap t) b l (s, W, cl, ch, us) O flush x w′ l′ f r =
         let L = laws (b .register .levels) (s .low) (s .high) in
         ran cap cl ch t b l s W O (flush-call (shape-of shapes b) S (view-of b t)) (flush-used L cap (view-of b t) us) L (flush-goes shapes (shape-of shapes b) L S l (view-of b t) W .trail) x w′ l′ r
-    keeps (opened cap t) b l (s, W, cl, ch, us) O shut-down x w′ l′ f (ex, ew, el) = rw (ew, el) (inr (s, warm-cool shapes (shape-of shapes b) S W), O)
+    keeps (opened cap t) b l (s, W, cl, ch, us) O shut-down x w′ l′ f (ex, ew, el) = rw (ew, el) (inr (s, open-to-cold shapes (shape-of shapes b) S W), O)
     keeps (opened cap t) b l (s, W, cl, ch, us) O (tamper a y) x w′ l′ f (ex, ew, el) =
         rw (ew, el) ((s, record { durable = W .durable; slots-hold = W .slots-hold; fine = λ q k. tampered-fine (shape-of shapes b) l (b .memory) a y (f (s .formatted)) q k (W .fine q k) }, cl, ch, us), O)
     keeps (latched r) b l H O (format h) x w′ l′ f s = absurd s
@@ -159,7 +158,7 @@ module _ (shapes : ℕ → Shape) (S : Scheme) where
     holds (start w u c) = (subst (λ z. Holds shapes S z (w .board) []) (sym c) (inl (u, refl)), tt)
     holds (next {w} {l} R e x w′ l′ f s) = let H = holds R in keeps (w .chip) (w .board) l (H .0) (H .1) e x w′ l′ f s
 
-    within : (ch : Chip) (b : BoardState) (l : Log) → Holds shapes S ch b l → Within shapes ch b
+    within : (ch : Chip) (b : BoardState) (l : Log) → Holds shapes S ch b l → Within (shape-of shapes b) ch
     within cold b l H = tt
     within (latched r) b l H = tt
     within (opened cap t) b l (s, W, cl, ch, us) = (cl, ch, us)
@@ -183,8 +182,8 @@ module _ (shapes : ℕ → Shape) (S : Scheme) where
 
     -- One event obeys its law.
     obeys : (w : World) (l : Log) (ch : Chip) → Holds shapes S ch (w .board) l → No-reuse l → (e : Event) (x : Answer) (w′ : World) (l′ : Log) → Happens shapes S ch (w .board) l e x w′ l′ → Law shapes S w l ch e x w′ l′
-    obeys w l cold H O (format h) x w′ l′ s = (format-holds shapes S laws h w l H O x w′ l′ s .3, format-order shapes S h w l H x w′ l′ s)
-    obeys w l cold H O (bring-up cap num) x w′ l′ s = (bring-up-holds shapes S laws w l H cap num x w′ l′ s .0 .1, bring-up-order shapes S laws cap num w l H x w′ l′ s)
+    obeys w l cold H O (format h) x w′ l′ s = format-law shapes S h w l H O laws x w′ l′ s
+    obeys w l cold H O (bring-up cap num) x w′ l′ s = bring-up-law shapes S laws cap num w l H x w′ l′ s
     obeys w l cold H O (recharge p) x w′ l′ s = tt
     obeys w l cold H O (read a) x w′ l′ s = tt
     obeys w l cold H O (write a y) x w′ l′ s = tt
@@ -194,9 +193,15 @@ module _ (shapes : ℕ → Shape) (S : Scheme) where
     obeys w l (opened cap t) H O (format h) x w′ l′ s = tt
     obeys w l (opened cap t) H O (bring-up c num) x w′ l′ s = tt
     obeys w l (opened cap t) H O (recharge p) x w′ l′ s = tt
-    obeys w l (opened cap t) (sf, W, cl, ch, us) O (read a) x w′ l′ s = (read-law shapes S w (laws _ (sf .low) (sf .high)) t l W a x (s .0), highest shapes S w (laws _ (sf .low) (sf .high)) t l W a x (s .0), same w l (opened cap t) w′ l′ (s .1) (s .2))
-    obeys w l (opened cap t) (sf, W, cl, ch, us) O (write a y) x w′ l′ s = (write-law shapes S w (laws _ (sf .low) (sf .high)) cap t l W a y x w′ l′ s, one-commit shapes S w (laws _ (sf .low) (sf .high)) cap t l a y x w′ l′ s, record { commits = λ h. write-commits shapes S w (laws _ (sf .low) (sf .high)) cap t l W a y h x w′ l′ s; beyond = λ h. write-beyond shapes S w (laws _ (sf .low) (sf .high)) cap t l W a y h x w′ l′ s })
-    obeys w l (opened cap t) (sf, W, cl, ch, us) O flush x w′ l′ s = (flush-law shapes S w (laws _ (sf .low) (sf .high)) cap t l W x w′ l′ s, flush-commits shapes S w (laws _ (sf .low) (sf .high)) cap t l W x w′ l′ s)
+    obeys w l (opened cap t) (sf, W, cl, ch, us) O (read a) x w′ l′ s = (read-law shapes S w (laws _ (sf .low) (sf .high)) t l W a x (s .0), same w l (opened cap t) w′ l′ (s .1) (s .2))
+    obeys w l (opened cap t) (sf, W, cl, ch, us) O (write a y) x w′ l′ s =
+        let L = laws _ (sf .low) (sf .high) in
+        let z = write-part shapes S w L cap t l W a y x w′ l′ s in
+        record { beyond = λ h. write-beyond shapes S w L cap t l W a y h x w′ l′ s; commits = λ h. write-commits shapes S w L cap t l W a y h x w′ l′ s; committed = z .committed; half = z .half; keeps = z .keeps }
+    obeys w l (opened cap t) (sf, W, cl, ch, us) O flush x w′ l′ s =
+        let L = laws _ (sf .low) (sf .high) in
+        let z = flush-part shapes S w L cap t l W x w′ l′ s in
+        record { commits = flush-commits shapes S w L cap t l W x w′ l′ s; clean = z .clean; keeps = z .keeps }
     obeys w l (opened cap t) H O shut-down x w′ l′ s = (s .0, same w l cold w′ l′ (s .1) (s .2))
     obeys w l (opened cap t) H O (tamper a y) x w′ l′ s = tt
     obeys w l (latched r) H O (format h) x w′ l′ s = tt
@@ -209,5 +214,13 @@ module _ (shapes : ℕ → Shape) (S : Scheme) where
     obeys w l (latched r) H O (tamper a y) x w′ l′ s = tt
 
 -- The theorem, for every family of layouts that obeys the tree laws.
-pub keeps-promises : (shapes : ℕ → Shape) → ((h : ℕ) → 1 ≤ h → h ≤ 4 → TreeLaws (shapes h)) → Keeps-promises shapes
-keeps-promises shapes laws S w l R = let H = holds shapes S laws R in (H .1, within shapes S laws (w .chip) (w .board) l (H .0), says shapes S laws (w .chip) (w .board) l (H .0), slots-say shapes S laws (w .chip) (w .board) l (H .0), λ e x w′ l′ s. obeys shapes S laws w l (w .chip) (H .0) (H .1) e x w′ l′ s)
+pub keeps-promises : (shapes : ℕ → Shape) → Tree-layouts shapes → Keeps-promises shapes
+keeps-promises shapes laws S w l R =
+    let H = holds shapes S laws R in
+    record {
+      no-reuse = H .1;
+      register = says shapes S laws (w .chip) (w .board) l (H .0);
+      slots = slots-say shapes S laws (w .chip) (w .board) l (H .0);
+      within = within shapes S laws (w .chip) (w .board) l (H .0);
+      next = λ e x w′ l′ s. obeys shapes S laws w l (w .chip) (H .0) (H .1) e x w′ l′ s;
+    }

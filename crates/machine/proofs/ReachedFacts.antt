@@ -84,4 +84,4 @@ module _ (S : Scheme) where
 
   -- The theorem for one event: it obeys its law, and what it leaves is reached.
   pub step-law : {w : World} {l : Log} → Reached eight-ary S w l → (e : Event) (x : Answer) (w′ : World) (l′ : Log) → Fair eight-ary S w l e → Step eight-ary S w l e x w′ l′ → Law eight-ary S w l (w .chip) e x w′ l′ × Reached eight-ary S w′ l′
-  step-law {w} {l} R e x w′ l′ f s = (keeps-promises eight-ary eight-trees S w l R .4 e x w′ l′ s, next R e x w′ l′ f s)
+  step-law {w} {l} R e x w′ l′ f s = (keeps-promises eight-ary eight-trees S w l R .next e x w′ l′ s, next R e x w′ l′ f s)

@@ -13,8 +13,8 @@ use Rattle.machine.specs.Store.{Log}
 use Rattle.machine.specs.Faults.{fault, Outcome, ok, err, not-data, corrupt}
 use Rattle.machine.specs.Plans.{Table, View, counter-at, counter-of, read-under, read-call}
 use Rattle.machine.specs.History.{World, Answer, refused, read-answer, view-of, counter-in, body-in, shape-of}
-use Rattle.machine.specs.Laws.{Stands, Rests, itself, above, Read-law}
-use Rattle.machine.specs.Promises.{Highest}
+use Rattle.machine.specs.Laws.{Way-stands, Stands, Rests, itself}
+use Rattle.machine.specs.Promises.{Read-law}
 use Rattle.machine.proofs.Invariant.{Durable}
 use Rattle.machine.proofs.Basics.{ok-inj, err-inj, err≢ok}
 use Rattle.machine.proofs.Lines.{right-stands, stands-right, data-words}
@@ -65,9 +65,10 @@ module _ (shapes : ℕ → Shape) (S : Scheme) (w : World) (L : TreeLaws (shape-
   abbrev T : Shape
   T = shape-of shapes (w .board)
 
-  within : (a : ℕ) (h : a < T .data-lines) {z : Outcome Body} → Reads shapes T L S l (view-of (w .board) t) W a h z → Read-law shapes S w l a (read-answer z)
+  within : (a : ℕ) (h : a < T .data-lines) {z : Outcome Body} → Reads shapes T L S l (view-of (w .board) t) W a h z → Read-law S T w l a (read-answer z)
   within a h (gives all) =
       record {
+        answers = inl (_, refl);
         beyond = λ n. absurd (omega arith);
         gives = λ b e. sym (body-inj e);
         accepts = λ _. ((λ _. all), λ _. (body-in l a, refl));
@@ -75,47 +76,30 @@ module _ (shapes : ℕ → Shape) (S : Scheme) (w : World) (L : TreeLaws (shape-
       }
   within a h (denies q r s y) =
       record {
+        answers = inr (_, refl);
         beyond = λ n. absurd (omega arith);
         gives = λ b e. absurd (body≢refused (sym e));
         accepts = λ _. ((λ y. absurd (body≢refused (sym (y .1)))), λ all. absurd (s (all q r)));
         refuses =
             λ _ x n e.
             let f = refused-inj e .0 in
-            (ap (λ y. y .cause) (sym f), subst (λ y. Rests T (w .board .register .dirty) a (y .place)) f r, subst (λ y. Stands T S l (w .board .memory) (y .place) → ⊥) f s);
+            (ap (λ y. y .cause) (sym f), subst (λ y. Rests T (w .board .register .dirty) a (y .place)) f r, subst (λ y. Stands T S l (w .board .memory) (y .place) → ⊥) f s, subst (λ z. Way-stands T S l (w .board .memory) (w .board .register .dirty) (z .place)) f (λ u z d. ⊎-elim (λ g. absurd (d g)) (λ g. g) (y u z)));
       }
 
-  outside : (a : ℕ) → T .data-lines ≤ a → Read-law shapes S w l a (refused (fault not-data a) 0)
+  outside : (a : ℕ) → T .data-lines ≤ a → Read-law S T w l a (refused (fault not-data a) 0)
   outside a h =
       record {
+        answers = inr (_, refl);
         beyond = λ _. refl;
         gives = λ b e. absurd (body≢refused (sym e));
         accepts = λ n. absurd (omega arith);
         refuses = λ n. absurd (omega arith);
       }
 
-  pub read-law : (a : ℕ) (x : Answer) → x ≡ read-answer (read-call T S (view-of (w .board) t) a) → Read-law shapes S w l a x
+  pub read-law : (a : ℕ) (x : Answer) → x ≡ read-answer (read-call T S (view-of (w .board) t) a) → Read-law S T w l a x
   unfolding read-call
-  read-law a x e = subst (Read-law shapes S w l a) (sym e) (go (ltb a (T .data-lines)) refl)
+  read-law a x e = subst (Read-law S T w l a) (sym e) (go (ltb a (T .data-lines)) refl)
     where
-      go : (d : Bool) → ltb a (T .data-lines) ≡ d → Read-law shapes S w l a (read-answer (cond d (read-under T S (view-of (w .board) t) a (counter-of T S (view-of (w .board) t) a)) (err (fault not-data a))))
+      go : (d : Bool) → ltb a (T .data-lines) ≡ d → Read-law S T w l a (read-answer (cond d (read-under T S (view-of (w .board) t) a (counter-of T S (view-of (w .board) t) a)) (err (fault not-data a))))
       go true f = let h = ltb-true _ _ f in within a h (reads shapes T L S l (view-of (w .board) t) W a h)
       go false f = outside a (ltb-false _ _ f)
-
-  high-in : (a : ℕ) (h : a < T .data-lines) {z : Outcome Body} → Reads shapes T L S l (view-of (w .board) t) W a h z → Highest shapes S w l a (read-answer z)
-  high-in a h (gives all) = record { answers = inl (_, refl); above = λ _ r n e. absurd (body≢refused e) }
-  high-in a h (denies q r s y) =
-      record {
-        answers = inr (_, refl);
-        above =
-            λ _ x n e u.
-            subst (λ z. Rests T (w .board .register .dirty) (z .place) u → (u ≡ z .place → ⊥) → Stands T S l (w .board .memory) u) (refused-inj e .0)
-            (λ z d. ⊎-elim (λ g. absurd (d g)) (λ g. g) (y u z));
-      }
-
-  pub highest : (a : ℕ) (x : Answer) → x ≡ read-answer (read-call T S (view-of (w .board) t) a) → Highest shapes S w l a x
-  unfolding read-call
-  highest a x e = subst (Highest shapes S w l a) (sym e) (go (ltb a (T .data-lines)) refl)
-    where
-      go : (d : Bool) → ltb a (T .data-lines) ≡ d → Highest shapes S w l a (read-answer (cond d (read-under T S (view-of (w .board) t) a (counter-of T S (view-of (w .board) t) a)) (err (fault not-data a))))
-      go true f = let h = ltb-true _ _ f in high-in a h (reads shapes T L S l (view-of (w .board) t) W a h)
-      go false f = record { answers = inr (_, refl); above = λ h. absurd (omega (arith, ltb-false _ _ f)) }

@@ -9,25 +9,25 @@ use native.Mathlib.Omega.{arith}
 use lib.Dec.{ltb, leb, eqb}
 use lib.ListN.{length}
 use Rattle.std.proofs.shelf.Tests.{cases-lt, cases-eq, both-ways, ltb-true, ltb-false, leb-true, leb-false}
-use Rattle.suite.specs.Scheme.{Body, Line, Scheme}
+use Rattle.suite.specs.Scheme.{Body, Scheme}
 use Rattle.machine.specs.Layout.{Shape, TreeLaws, update}
 use Rattle.machine.specs.Store.{Log, Write}
 use Rattle.machine.specs.Faults.{Fault, fault, Outcome, ok, err, corrupt, at-limit}
 use Rattle.machine.specs.Plans.{Slot, Table, is-dirty, slot-counters, View, Run, stay, stop, chain, and-then, counter-at, counter-of, commit, commit-at, commit-under, overdue, evict-now, evict-at, evict, dirty-count, lowest, evict-lowest, evict-until, make-room, evict-overdue, write-at, flush-call}
 use Rattle.machine.specs.History.{counter-in}
-use Rattle.machine.specs.Laws.{Stands, Rests, itself, above}
+use Rattle.machine.specs.Laws.{Way-stands, Stands, Rests, itself, above}
 use Rattle.machine.proofs.Invariant.{Durable, Fine, Exact, Raised, Slots-hold}
 use Rattle.machine.proofs.Basics.{update-same, update-other, some-inj, none≢some, first-none, first-some, sum-zero, term-le}
 use Rattle.machine.proofs.TrustedCounter.{rests-higher, counter-true, counter-refused, inner-parent, depth-next, root-parent}
 use Rattle.machine.proofs.CommitKeeps.{Fits}
-use Rattle.machine.proofs.Trails.{Legal, entry, Trail, end, step, join, Open-holds, warm-trail, raise-other, leaf-kept}
+use Rattle.machine.proofs.Trails.{Legal, entry, Trail, end, step, join, Open-holds, open-after, raise-other, leaf-kept}
 
 -- A slot, if any, in which one more raise is allowed.
-abbrev pub Roomy : Option Slot → Type 0
-Roomy (some s) = s .pending < 1023
-Roomy none = Unit {0}
+abbrev pub Can-raise : Option Slot → Type 0
+Can-raise (some s) = s .pending < 1023
+Can-raise none = Unit {0}
 
-pub not-overdue : (T : Shape) (S : Scheme) (o : Option Slot) → overdue o ≡ false → Roomy o
+pub not-overdue : (T : Shape) (S : Scheme) (o : Option Slot) → overdue o ≡ false → Can-raise o
 not-overdue T S (some s) e = leb-false _ _ e
 not-overdue T S none e = tt
 
@@ -43,39 +43,34 @@ then-none r f e = go (r .ends) refl e
     go none p e = (p, e, refl)
 
 module _ (shapes : ℕ → Shape) (T : Shape) (L : TreeLaws T) (S : Scheme) where
-  -- Why a run may be refused, as it stands at its end.
-  abbrev pub Due-at : Log → (ℕ → Line) → Fault → Type 0
-  Due-at l m x = ((x .cause ≡ corrupt) × (x .place < T .lines) × (Stands T S l m (x .place) → ⊥)) ⊎ ((x .cause ≡ at-limit) × (x .place < T .lines) × (counter-in l (x .place) ≡ T .limit (x .place)))
-
   -- Why line a, next to be committed, is not: its counter is at the limit, or the highest of its ancestors that does not stand.
   abbrev pub Reason : Log → View → ℕ → Fault → Type 0
   Reason l v a x =
-      ((x ≡ fault at-limit a) × (counter-in l a ≡ T .limit a))
-      ⊎ ((p : ℕ) × (x ≡ fault corrupt p) × Rests T (v .register .dirty) a p × (p ≡ a → ⊥) × (Stands T S l (v .memory) p → ⊥) × ((u : ℕ) → Rests T (v .register .dirty) p u → (u ≡ p → ⊥) → Stands T S l (v .memory) u))
+      ((x ≡ fault at-limit a) × Way-stands T S l (v .memory) (v .register .dirty) a × (counter-in l a ≡ T .limit a))
+      ⊎ ((p : ℕ) × (x ≡ fault corrupt p) × Rests T (v .register .dirty) a p × (p ≡ a → ⊥) × (Stands T S l (v .memory) p → ⊥) × Way-stands T S l (v .memory) (v .register .dirty) p)
 
-  -- A run is a chain of commits, refused only with reason.
+  -- A run is a chain of commits.
   pub record Goes (Q : ℕ → Type 0) (l : Log) (v : View) (r : Run) : Type 0 where
     pub log : Log
     pub trail : Trail T S Q v l (r .planned) (r .view) log
-    pub why : (x : Fault) → r .ends ≡ some x → Due-at log (r .view .memory) x
 
   pub goes-stay : {Q : ℕ → Type 0} (l : Log) (v : View) → Goes Q l v (stay v)
-  goes-stay l v = record { log = l; trail = end; why = λ x e. absurd (none≢some e) }
+  goes-stay l v = record { log = l; trail = end }
 
-  pub goes-stop : {Q : ℕ → Type 0} (l : Log) (v : View) (x : Fault) → Due-at l (v .memory) x → Goes Q l v (stop v x)
-  goes-stop l v x d = record { log = l; trail = end; why = λ y e. subst (Due-at l (v .memory)) (some-inj e) d }
+  pub goes-stop : {Q : ℕ → Type 0} (l : Log) (v : View) (x : Fault) → Goes Q l v (stop v x)
+  goes-stop l v x = record { log = l; trail = end }
 
   pub goes-then : {Q : ℕ → Type 0} (l : Log) (v : View) (r : Run) (f : View → Run) → (g : Goes Q l v r) → (r .ends ≡ none → Goes Q (g .log) (r .view) (f (r .view))) → Goes Q l v (and-then r f)
   goes-then {Q} l v r f g h = go (r .ends) refl
     where
       go : (o : Option Fault) → r .ends ≡ o → Goes Q l v (chain r o f)
       go (some x) p = g
-      go none p = let k = h p in record { log = k .log; trail = join (g .trail) (k .trail); why = k .why }
+      go none p = let k = h p in record { log = k .log; trail = join (g .trail) (k .trail) }
 
   module _ (l : Log) (v : View) (w : Open-holds shapes T S l v) (t : Table) (a : ℕ) (b : Body) (k : a < T .lines) (own : t a ≡ none) (others : (p : ℕ) → (p ≡ a → ⊥) → t p ≡ v .table p)
-      (full : T .data-lines ≤ a → (i : ℕ) → i < T .arity a → b i ≡ counter-in l (T .child a i)) (roomy : Roomy (v .table (T .parent a))) (bare : T .data-lines ≤ a → (i : ℕ) → T .arity a ≤ i → b i ≡ 0) where
+      (full : T .data-lines ≤ a → (i : ℕ) → i < T .arity a → b i ≡ counter-in l (T .child a i)) (can-raise : Can-raise (v .table (T .parent a))) (bare : T .data-lines ≤ a → (i : ℕ) → T .arity a ≤ i → b i ≡ 0) where
     abbrev pub Commits : Run → Type 0
-    Commits r = ((x : Fault) × (r ≡ stop v x) × Due-at l (v .memory) x × Reason l v a x) ⊎ ((r ≡ commit-under T S (v .memory) (v .register) t a b (suc (counter-in l a))) × Legal T S l v t a (suc (counter-in l a)) b)
+    Commits r = ((x : Fault) × (r ≡ stop v x) × Reason l v a x) ⊎ ((r ≡ commit-under T S (v .memory) (v .register) t a b (suc (counter-in l a))) × Legal T S l v t a (suc (counter-in l a)) b)
 
     -- A commit is made, unless the way down is corrupt or the counter is at its limit.
     pub commit-goes : Commits (commit T S v t a b)
@@ -88,38 +83,38 @@ module _ (shapes : ℕ → Shape) (T : Shape) (L : TreeLaws T) (S : Scheme) wher
         go : (z : Outcome ℕ) → counter-at T S v (T .depth (T .parent a)) a ≡ z → Commits (commit-at T S v t a b z)
         go (err x) e =
             let (q, f, r, o, n, y) = counter-refused shapes T L S l v D (T .depth (T .parent a)) a x k refl (λ q _ _. w .slots-hold .exact q) (λ q _. w .fine q) e in
-            inl (x, refl, inl (ap (λ y. y .cause) f, subst (λ z. z < T .lines) (ap (λ y. y .place) (sym f)) (rests-higher L k r .1), λ s. n (subst (Stands T S l (v .memory)) (ap (λ y. y .place) f) s)), inr (q, f, r, λ z. omega (arith, z, o), n, λ u z d. ⊎-elim (λ g. absurd (d g)) (λ g. g) (y u z)))
+            inl (x, refl, inr (q, f, r, λ z. omega (arith, z, o), n, λ u z d. ⊎-elim (λ g. absurd (d g)) (λ g. g) (y u z)))
         go (ok c) e = dec (ltb c (T .limit a)) refl
           where
             tr : (c ≡ counter-in l a) × ((q : ℕ) → Rests T (v .register .dirty) a q → (q ≡ a) ⊎ Stands T S l (v .memory) q)
             tr = counter-true shapes T L S l v D (T .depth (T .parent a)) a c k refl (λ q _ _. w .slots-hold .exact q) (λ q _. w .fine q) e
 
             fits : T .parent a < T .lines → Fits T S l (v .memory) (T .parent a) (v .table (T .parent a))
-            fits h = at (v .table (T .parent a)) (w .slots-hold .exact (T .parent a)) roomy
+            fits h = at (v .table (T .parent a)) (w .slots-hold .exact (T .parent a)) can-raise
               where
-                at : (o : Option Slot) → Exact T l (v .register .dirty) o (T .parent a) → Roomy o → Fits T S l (v .memory) (T .parent a) o
+                at : (o : Option Slot) → Exact T l (v .register .dirty) o (T .parent a) → Can-raise o → Fits T S l (v .memory) (T .parent a) o
                 at (some s) x r = r
                 at none x r = ⊎-elim (λ e. absurd (omega (arith, e, L .parent-above a k))) (λ s. s) (tr .1 (T .parent a) (above itself h x))
 
             dec : (y : Bool) → ltb c (T .limit a) ≡ y → Commits (cond y (commit-under T S (v .memory) (v .register) t a b (suc c)) (stop v (fault at-limit a)))
             dec true f =
                 inr (ap (λ n. commit-under T S (v .memory) (v .register) t a b (suc n)) (tr .0), record { here = k; next = refl; young = subst (λ n. n < T .limit a) (tr .0) (ltb-true _ _ f); own = own; others = others; full = full; fits = fits; bare = bare; way = tr .1 })
-            dec false f = inl (fault at-limit a, refl, inr (refl, k, omega (arith, tr .0, ltb-false _ _ f, D .small a k)), inl (refl, omega (arith, tr .0, ltb-false _ _ f, D .small a k)))
+            dec false f = inl (fault at-limit a, refl, inl (refl, λ u z d. ⊎-elim (λ g. absurd (d g)) (λ g. g) (tr .1 u z), omega (arith, tr .0, ltb-false _ _ f, D .small a k)))
 
     -- As a run.
     pub commit-run : {Q : ℕ → Type 0} → Q a → Goes Q l v (commit T S v t a b)
     commit-run {Q} q = go commit-goes
       where
         go : Commits (commit T S v t a b) → Goes Q l v (commit T S v t a b)
-        go (inl (x, e, d, _)) = subst (Goes Q l v) (sym e) (goes-stop l v x d)
-        go (inr (e, g)) = subst (Goes Q l v) (sym e) (record { log = entry a (suc (counter-in l a)) b ∷ l; trail = step t a (suc (counter-in l a)) b q g end; why = λ x f. absurd (none≢some f) })
+        go (inl (x, e, _)) = subst (Goes Q l v) (sym e) (goes-stop l v x)
+        go (inr (e, g)) = subst (Goes Q l v) (sym e) (record { log = entry a (suc (counter-in l a)) b ∷ l; trail = step t a (suc (counter-in l a)) b q g end })
 
     -- What a done commit leaves in the slots that are not the parent's.
     pub commit-slots : commit T S v t a b .ends ≡ none → (q : ℕ) → (q ≡ T .parent a → ⊥) → commit T S v t a b .view .table q ≡ t q
     commit-slots n q d = go commit-goes
       where
         go : Commits (commit T S v t a b) → commit T S v t a b .view .table q ≡ t q
-        go (inl (x, e, _, _)) = absurd (none≢some (sym n ∙ ap (λ r. r .ends) e))
+        go (inl (x, e, _)) = absurd (none≢some (sym n ∙ ap (λ r. r .ends) e))
         go (inr (e, g)) = ap (λ r. r .view .table q) e ∙ raise-other T S (T .depth (T .parent a)) v t a (suc (counter-in l a)) q d
 
   -- The addresses of nodes.
@@ -151,7 +146,7 @@ module _ (shapes : ℕ → Shape) (T : Shape) (L : TreeLaws T) (S : Scheme) wher
   abbrev pub Puts : Log → View → ℕ → Run → Type 0
   Puts l v A r = Goes Node l v r × (r .ends ≡ none → (q : ℕ) → q ≤ A → r .view .table q ≡ update (v .table) A none q)
 
-  now-puts : (l : Log) (v : View) → Open-holds shapes T S l v → (A : ℕ) → is-dirty (v .table A) ≡ true → Roomy (v .table (T .parent A)) → Puts l v A (evict-now T S v A)
+  now-puts : (l : Log) (v : View) → Open-holds shapes T S l v → (A : ℕ) → is-dirty (v .table A) ≡ true → Can-raise (v .table (T .parent A)) → Puts l v A (evict-now T S v A)
   unfolding evict-now
   now-puts l v w A h r =
       let (n, k) = held-inner l v w A h in
@@ -165,14 +160,14 @@ module _ (shapes : ℕ → Shape) (T : Shape) (L : TreeLaws T) (S : Scheme) wher
 
   pub evict-puts : (r : ℕ) (l : Log) (v : View) → Open-holds shapes T S l v → (A : ℕ) → is-dirty (v .table A) ≡ true → T .depth (T .parent A) ≡ r → Puts l v A (evict-at T S v r A)
   unfolding evict-at
-  evict-puts zero l v w A h e = now-puts l v w A h (roomy (v .table (T .parent A)) refl)
+  evict-puts zero l v w A h e = now-puts l v w A h (can-raise (v .table (T .parent A)) refl)
     where
       k : A < T .lines
       k = held-inner l v w A h .1
 
-      roomy : (o : Option Slot) → v .table (T .parent A) ≡ o → Roomy o
-      roomy (some s) f = absurd (omega (arith, root-parent T L A k e, held-inner l v w (T .parent A) (ap is-dirty f) .1))
-      roomy none f = tt
+      can-raise : (o : Option Slot) → v .table (T .parent A) ≡ o → Can-raise o
+      can-raise (some s) f = absurd (omega (arith, root-parent T L A k e, held-inner l v w (T .parent A) (ap is-dirty f) .1))
+      can-raise none f = tt
   evict-puts (suc r) l v w A h e = go (overdue (v .table (T .parent A))) refl (λ f. evict-puts r l v w (T .parent A) f (depth-next T L A r (inner-parent T L A r k e) e))
     where
       k : A < T .lines
@@ -190,8 +185,8 @@ module _ (shapes : ℕ → Shape) (T : Shape) (L : TreeLaws T) (S : Scheme) wher
 
           second : evict-at T S v r (T .parent A) .ends ≡ none → Puts (g .log) u A (evict-now T S u A)
           second n =
-              now-puts (g .log) u (warm-trail shapes T L S w (g .trail)) A (ap is-dirty (low A n (omega arith)) ∙ h)
-              (subst Roomy (sym (s n (T .parent A) (omega arith) ∙ update-same (v .table) (T .parent A) none (T .parent A) refl)) tt)
+              now-puts (g .log) u (open-after shapes T L S w (g .trail)) A (ap is-dirty (low A n (omega arith)) ∙ h)
+              (subst Can-raise (sym (s n (T .parent A) (omega arith) ∙ update-same (v .table) (T .parent A) none (T .parent A) refl)) tt)
 
           done : and-then (evict-at T S v r (T .parent A)) (λ u. evict-now T S u A) .ends ≡ none → (q : ℕ) → q ≤ A → and-then (evict-at T S v r (T .parent A)) (λ u. evict-now T S u A) .view .table q ≡ update (v .table) A none q
           done n q i =
@@ -225,7 +220,7 @@ module _ (shapes : ℕ → Shape) (T : Shape) (L : TreeLaws T) (S : Scheme) wher
 
       go : (b : Bool) → ((l₁ : Log) (u : View) → Open-holds shapes T S l₁ u → Goes Node l₁ u (evict-until T S m f u)) → Goes Node l v (cond b (stay v) (and-then r (evict-until T S m f)))
       go true ih = goes-stay l v
-      go false ih = goes-then l v r (evict-until T S m f) g (λ _. ih (g .log) (r .view) (warm-trail shapes T L S w (g .trail)))
+      go false ih = goes-then l v r (evict-until T S m f) g (λ _. ih (g .log) (r .view) (open-after shapes T L S w (g .trail)))
 
   -- Done, it leaves at most m nodes dirty, if the turns suffice.
   pub until-ends : (m f : ℕ) (l : Log) (v : View) → Open-holds shapes T S l v → ((q : ℕ) → q + f < T .lines → is-dirty (v .table q) ≡ false) → evict-until T S m f v .ends ≡ none → dirty-count T (evict-until T S m f v .view .table) ≤ m
@@ -263,14 +258,14 @@ module _ (shapes : ℕ → Shape) (T : Shape) (L : TreeLaws T) (S : Scheme) wher
       go true e n ih = leb-true _ _ e
       go false e n ih =
           let (n₁, n₂, x) = then-none r (evict-until T S m f) n in
-          subst (λ y. dirty-count T (y .table) ≤ m) (sym x) (ih (g .log) (r .view) (warm-trail shapes T L S w (g .trail)) (clear (lowest T (v .table)) refl n₁) n₂)
+          subst (λ y. dirty-count T (y .table) ≤ m) (sym x) (ih (g .log) (r .view) (open-after shapes T L S w (g .trail)) (clear (lowest T (v .table)) refl n₁) n₂)
 
   abbrev P : ℕ → ℕ
   P a = T .parent a
 
   -- A run of node commits that leaves room for one more raise at node p.
   abbrev pub Clears : Log → View → ℕ → Run → Type 0
-  Clears l v p r = Goes Node l v r × (r .ends ≡ none → Roomy (r .view .table p))
+  Clears l v p r = Goes Node l v r × (r .ends ≡ none → Can-raise (r .view .table p))
 
   overdue-clears : (l : Log) (v : View) → Open-holds shapes T S l v → (p : ℕ) → Clears l v p (evict-overdue T S v p)
   unfolding evict
@@ -279,14 +274,14 @@ module _ (shapes : ℕ → Shape) (T : Shape) (L : TreeLaws T) (S : Scheme) wher
       go : (b : Bool) → overdue (v .table p) ≡ b → Clears l v p (cond b (evict T S v p) (stay v))
       go true e =
           let (g, s) = evict-puts (T .depth (T .parent p)) l v w p (overdue-held T S (v .table p) e) refl in
-          (g, λ n. subst Roomy (sym (s n p (omega arith) ∙ update-same (v .table) p none p refl)) tt)
+          (g, λ n. subst Can-raise (sym (s n p (omega arith) ∙ update-same (v .table) p none p refl)) tt)
       go false e = (goes-stay l v, λ n. not-overdue T S (v .table p) e)
 
-  room-clears : (cap : ℕ) (l : Log) (v : View) → Open-holds shapes T S l v → (d : ℕ) → d < T .data-lines → (o : Option Slot) → v .table (T .parent d) ≡ o → Roomy o → Clears l v (T .parent d) (make-room T S cap (T .parent d) v o)
-  room-clears cap l v w d h (some s) e y = (goes-stay l v, λ n. subst Roomy (sym e) y)
+  room-clears : (cap : ℕ) (l : Log) (v : View) → Open-holds shapes T S l v → (d : ℕ) → d < T .data-lines → (o : Option Slot) → v .table (T .parent d) ≡ o → Can-raise o → Clears l v (T .parent d) (make-room T S cap (T .parent d) v o)
+  room-clears cap l v w d h (some s) e y = (goes-stay l v, λ n. subst Can-raise (sym e) y)
   room-clears cap l v w d h none e y =
       let g = until-goes (cap - 1) (T .lines) l v w in
-      (g, λ n. ⊎-elim (λ f. subst Roomy (sym (f ∙ e)) tt) (λ f. subst Roomy (sym f) tt) (leaf-kept L (g .trail) d h))
+      (g, λ n. ⊎-elim (λ f. subst Can-raise (sym (f ∙ e)) tt) (λ f. subst Can-raise (sym f) tt) (leaf-kept L (g .trail) d h))
 
   pub room-freed : (cap : ℕ) (l : Log) (v : View) → Open-holds shapes T S l v → (d : ℕ) → d < T .data-lines → Clears l v (T .parent d) (and-then (evict-overdue T S v (T .parent d)) (λ u. make-room T S cap (T .parent d) u (u .table (T .parent d))))
   room-freed cap l v w d h = at (overdue-clears l v w (T .parent d))
@@ -300,11 +295,11 @@ module _ (shapes : ℕ → Shape) (T : Shape) (L : TreeLaws T) (S : Scheme) wher
       at : Clears l v (T .parent d) r → Clears l v (T .parent d) (and-then r f)
       at (g, y) = (
         goes-then l v r f g (λ n. second n .0),
-        λ n. let (n₁, n₂, x) = then-none r f n in subst (λ z. Roomy (z .table (T .parent d))) (sym x) (second n₁ .1 n₂),
+        λ n. let (n₁, n₂, x) = then-none r f n in subst (λ z. Can-raise (z .table (T .parent d))) (sym x) (second n₁ .1 n₂),
       )
         where
           second : r .ends ≡ none → Clears (g .log) (r .view) (T .parent d) (f (r .view))
-          second n = room-clears cap (g .log) (r .view) (warm-trail shapes T L S w (g .trail)) d h (r .view .table (T .parent d)) refl (y n)
+          second n = room-clears cap (g .log) (r .view) (open-after shapes T L S w (g .trail)) d h (r .view .table (T .parent d)) refl (y n)
 
   -- What a write comes to: refused in format room or at its own commit, after commits of nodes alone; or those and its own commit.
   pub data Wrote (l : Log) (v : View) (a : ℕ) (b : Body) : Run → Type 0 where
@@ -326,7 +321,7 @@ module _ (shapes : ℕ → Shape) (T : Shape) (L : TreeLaws T) (S : Scheme) wher
       last n = at (commit-goes (g .log) (r .view) w₁ (r .view .table) a b k (data-slot (g .log) (r .view) w₁ a h) (λ p _. refl) (λ z. absurd (omega arith)) (y n) (λ z. absurd (omega arith)))
         where
           w₁ : Open-holds shapes T S (g .log) (r .view)
-          w₁ = warm-trail shapes T L S w (g .trail)
+          w₁ = open-after shapes T L S w (g .trail)
 
           k : a < T .lines
           k = omega (arith, L .data-in)
@@ -334,10 +329,10 @@ module _ (shapes : ℕ → Shape) (T : Shape) (L : TreeLaws T) (S : Scheme) wher
           c : Run
           c = commit T S (r .view) (r .view .table) a b
 
-          at : ((x : Fault) × (c ≡ stop (r .view) x) × Due-at (g .log) (r .view .memory) x × Reason (g .log) (r .view) a x) ⊎ ((c ≡ commit-under T S ((r .view) .memory) ((r .view) .register) (r .view .table) a b (suc (counter-in (g .log) a))) × Legal T S (g .log) (r .view) (r .view .table) a (suc (counter-in (g .log) a)) b) → Wrote l v a b (record { planned = r .planned ++ c .planned; view = c .view; ends = c .ends })
-          at (inl (x, e, d, _)) =
+          at : ((x : Fault) × (c ≡ stop (r .view) x) × Reason (g .log) (r .view) a x) ⊎ ((c ≡ commit-under T S ((r .view) .memory) ((r .view) .register) (r .view .table) a b (suc (counter-in (g .log) a))) × Legal T S (g .log) (r .view) (r .view .table) a (suc (counter-in (g .log) a)) b) → Wrote l v a b (record { planned = r .planned ++ c .planned; view = c .view; ends = c .ends })
+          at (inl (x, e, _)) =
               subst (λ z. Wrote l v a b (record { planned = r .planned ++ z .planned; view = z .view; ends = z .ends })) (sym e)
-              (short (record { log = g .log; trail = join (g .trail) end; why = λ y f. subst (Due-at (g .log) (r .view .memory)) (some-inj f) d }) x refl)
+              (short (record { log = g .log; trail = join (g .trail) end }) x refl)
           at (inr (e, G)) =
               subst (λ z. Wrote l v a b (record { planned = r .planned ++ z .planned; view = z .view; ends = z .ends })) (sym e) (whole (g .log) (g .trail) G)
 
@@ -351,7 +346,7 @@ module _ (shapes : ℕ → Shape) (T : Shape) (L : TreeLaws T) (S : Scheme) wher
       k : a < T .lines
       k = omega (arith, L .data-in)
 
-      root-room : T .depth (T .parent a) ≡ 0 → (o : Option Slot) → v .table (T .parent a) ≡ o → Roomy o
+      root-room : T .depth (T .parent a) ≡ 0 → (o : Option Slot) → v .table (T .parent a) ≡ o → Can-raise o
       root-room e (some s) f = absurd (omega (arith, root-parent T L a k e, held-inner l v w (T .parent a) (ap is-dirty f) .1))
       root-room e none f = tt
 

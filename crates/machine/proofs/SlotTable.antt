@@ -275,8 +275,8 @@ module _ (T : Shape) (S : Scheme) where
                 at true f = omega (arith, evict-used (T .depth (T .parent P)) v P j (held-of (v .table P) f) refl)
                 at false f = h
 
-            roomy : View → Run
-            roomy u = make-room T S cap P u (u .table P)
+            can-raise : View → Run
+            can-raise u = make-room T S cap P u (u .table P)
 
             room-cap : (u : View) → dirty-count T (u .table) ≤ cap → (o : Option Slot) → dirty-count T (make-room T S cap P u o .view .table) ≤ cap
             room-cap u i (some s) = i
@@ -287,14 +287,14 @@ module _ (T : Shape) (S : Scheme) where
             room-end u none f n = inr (omega (arith, until-room (cap - 1) u n))
 
             inner : Run
-            inner = and-then relief roomy
+            inner = and-then relief can-raise
 
             inner-cap : dirty-count T (inner .view .table) ≤ cap
-            inner-cap = chain-used cap relief roomy relief-cap (λ _. room-cap (relief .view) relief-cap (relief .view .table P))
+            inner-cap = chain-used cap relief can-raise relief-cap (λ _. room-cap (relief .view) relief-cap (relief .view .table P))
 
             last : inner .ends ≡ none → dirty-count T (commit T S (inner .view) (inner .view .table) a b .view .table) ≤ cap
             last n =
-                let (n₁, n₂, x) = then-none relief roomy n in
+                let (n₁, n₂, x) = then-none relief can-raise n in
                 at (subst (λ y. (is-dirty (y .table P) ≡ true) ⊎ (suc (dirty-count T (y .table)) ≤ cap)) (sym x) (room-end (relief .view) (relief .view .table P) refl n₂))
               where
                 at : (is-dirty (inner .view .table P) ≡ true) ⊎ (suc (dirty-count T (inner .view .table)) ≤ cap) → dirty-count T (commit T S (inner .view) (inner .view .table) a b .view .table) ≤ cap

@@ -62,8 +62,8 @@ module _ (shapes : ℕ → Shape) (T : Shape) (S : Scheme) where
     pub durable : Durable T S l g
     pub fine : (q : ℕ) → q < T .lines → ((n : Journal) → g .journal ≡ some n → n .at ≡ q → ⊥) → Fine shapes T S l m q
 
-  pub warm-cool : {l : Log} {v : View} → Open-holds l v → Cold-holds l (v .memory) (v .register)
-  warm-cool w = record { durable = w .durable; fine = λ q k _. w .fine q k }
+  pub open-to-cold : {l : Log} {v : View} → Open-holds l v → Cold-holds l (v .memory) (v .register)
+  open-to-cold w = record { durable = w .durable; fine = λ q k _. w .fine q k }
 
 module _ (shapes : ℕ → Shape) (T : Shape) (L : TreeLaws T) (S : Scheme) where
   -- A line elsewhere is as fine after a commit as before.
@@ -93,9 +93,9 @@ module _ (shapes : ℕ → Shape) (T : Shape) (L : TreeLaws T) (S : Scheme) wher
             subst (λ (x : Line). (x ≡ line-at T S q (counter-in (entry a c b ∷ l) q) (body-in (entry a c b ∷ l) q)) ⊎ Replayed S T (entry a c b ∷ l) q x) (sym (update-other (v .memory) a (line-at T S a c b) q e)) (fine-on l (v .memory) a c b q e (w .fine q k))
 
   -- A chain of commits keeps an open board's state.
-  pub warm-trail : {Q : ℕ → Type 0} {v : View} {l : Log} {ws : List Write} {v′ : View} {l′ : Log} → Open-holds shapes T S l v → Trail T S Q v l ws v′ l′ → Open-holds shapes T S l′ v′
-  warm-trail w end = w
-  warm-trail {v = v} {l = l} w (step t a c b q g x) = warm-trail (after-line l v w t a c b g) x
+  pub open-after : {Q : ℕ → Type 0} {v : View} {l : Log} {ws : List Write} {v′ : View} {l′ : Log} → Open-holds shapes T S l v → Trail T S Q v l ws v′ l′ → Open-holds shapes T S l′ v′
+  open-after w end = w
+  open-after {v = v} {l = l} w (step t a c b q g x) = open-after (after-line l v w t a c b g) x
 
   -- What a board holds after a chain done whole.
   pub after-writes-all : {Q : ℕ → Type 0} {v : View} {l : Log} {ws : List Write} {v′ : View} {l′ : Log} → Trail T S Q v l ws v′ l′ → (b : BoardState) → b .memory ≡ v .memory → b .register ≡ v .register → (after-writes (length ws) ws b .memory ≡ v′ .memory) × (after-writes (length ws) ws b .register ≡ v′ .register) × (log-after (length ws) ws l ≡ l′)
@@ -106,8 +106,8 @@ module _ (shapes : ℕ → Shape) (T : Shape) (L : TreeLaws T) (S : Scheme) wher
   -- And after a chain cut anywhere: the register fits the log, and every line but the journald one is fine.
   pub after-writes-some : {Q : ℕ → Type 0} {v : View} {l : Log} {ws : List Write} {v′ : View} {l′ : Log} → Open-holds shapes T S l v → Trail T S Q v l ws v′ l′ → (b : BoardState) → b .memory ≡ v .memory → b .register ≡ v .register → (k : ℕ) → Cold-holds shapes T S (log-after k ws l) (after-writes k ws b .memory) (after-writes k ws b .register)
   unfolding after-writes log-after
-  after-writes-some w end b e f k = rw (e, f) (warm-cool shapes T S w)
-  after-writes-some w (step t a c y q g x) b e f zero = rw (e, f) (warm-cool shapes T S w)
+  after-writes-some w end b e f k = rw (e, f) (open-to-cold shapes T S w)
+  after-writes-some w (step t a c y q g x) b e f zero = rw (e, f) (open-to-cold shapes T S w)
   after-writes-some {v = v} {l = l} w (step t a c y q g x) b e f (suc zero) = rw e (after-register l v w t a c y g)
   after-writes-some {v = v} {l = l} w (step t a c y q g x) b e f (suc (suc k)) = after-writes-some (after-line l v w t a c y g) x _ (ap (λ m. update m a (line-at T S a c y)) e) refl k
 

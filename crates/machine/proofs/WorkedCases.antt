@@ -17,6 +17,7 @@ use Rattle.machine.specs.Plans.{View, Run, slot-counters, dirty-count, sum-of,
 use Rattle.machine.specs.Words.{row, words-of, map-word}
 use Rattle.machine.specs.Cases.{Worked-cases, new-view, write-2, commits-of, after-13, after-20}
 use Rattle.machine.proofs.Lines.{line-right}
+use Rattle.machine.proofs.Example.{w₃, l₃, a-history}
 
 module _ (S : Scheme) where
   abbrev T : Shape
@@ -89,6 +90,7 @@ worked-cases =
       root = λ S b d. of-both S b d (λ r s. s .view .register .roots 1 ≡ 1) refl;
       map = λ S b d. of-both S b d (λ r s. row (words-of (s .view .register)) 22 ≡ 4) refl;
       sum = λ S b d. of-both S b d (λ r s. s .view .register .dirty-sum ≡ 1) refl;
+      history = (w₃, l₃, a-history .0, a-history .1);
       replayed-read = refl;
       replayed-bring-up = (refl, refl);
     }

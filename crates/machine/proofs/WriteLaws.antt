@@ -16,14 +16,14 @@ use Rattle.machine.specs.Layout.{Shape, TreeLaws}
 use Rattle.machine.specs.Store.{line-at, Log, Write, BoardState, after-writes, log-after, commits-in, Cut}
 use Rattle.machine.specs.Faults.{number, Fault, fault, not-data, power-lost}
 use Rattle.machine.specs.Plans.{Slot, Table, is-dirty, View, Run, stop, commit-under, write-at, write-call, flush-call}
-use Rattle.machine.specs.History.{World, Answer, refused, power-lost-at, answer-of, chip-of, after, view-of, counter-in, body-in, shape-of, Ran}
-use Rattle.machine.specs.Laws.{Stands, Commits-next, Has-reason, Write-law, Flush-law}
+use Rattle.machine.specs.History.{World, Answer, done, refused, power-lost-at, answer-of, chip-of, after, view-of, counter-in, body-in, shape-of, Ran}
+use Rattle.machine.specs.Laws.{Stands, Commits-next, Same-commit}
 use Rattle.machine.proofs.Invariant.{Durable, Slots-hold, Exact}
 use Rattle.machine.proofs.Basics.{update-same, some-inj, none≢some}
 use Rattle.machine.proofs.Lines.{tag-low}
 use Rattle.machine.proofs.CommitKeeps.{counter-new, body-new}
-use Rattle.machine.proofs.Trails.{Legal, entry, Trail, end, step, join, widen, Open-holds, Cold-holds, warm-trail, after-writes-all, after-writes-some, counted, kept-some}
-use Rattle.machine.proofs.Runs.{Goes, Node, Due-at, Wrote, short, whole, wrote, flush-goes, flush-ends}
+use Rattle.machine.proofs.Trails.{Legal, entry, Trail, end, step, join, widen, Open-holds, Cold-holds, open-after, after-writes-all, after-writes-some, kept-some}
+use Rattle.machine.proofs.Runs.{Goes, Node, Wrote, short, whole, wrote, flush-goes, flush-ends}
 use Rattle.machine.proofs.Cuts.{after-writes-front, log-front, after-writes-back, log-back, cut-le, cut-lost, answer-done, answer-refused, refused-inj, done≢refused}
 
 -- Lines committed under neighbouring counters differ.
@@ -96,12 +96,17 @@ module _ (shapes : ℕ → Shape) (T : Shape) (L : TreeLaws T) (S : Scheme) (l :
                 ap (λ n. after-writes n (ws ++ two) bd .register .journal) at ∙ ap (λ q. q .register .journal) (after-writes-back ws two 1 bd)
                 ∙ ap (λ n. some (record { at = a; line = line-at T S a (suc n) b })) (same-counter tr)
 
-    -- A run of a write is refused only with reason.
-    pub due-law : {r : Run} → Wrote shapes T L S l v a b r → (y : Fault) → r .ends ≡ some y → Due-at shapes T L S (log-after (length (r .planned)) (r .planned) l) (after-writes (length (r .planned)) (r .planned) bd .memory) y
-    due-law (short g x e) y f = let (m, _, q) = after-writes-all shapes T L S (g .trail) bd em eg in rw (m, q) (g .why y f)
-    due-law (whole l₁ tr G) y f = absurd (none≢some f)
+-- What a write leaves of data lines.
+pub record Write-part (S : Scheme) (T : Shape) (w : World) (l : Log) (a : ℕ) (b : Body) (x : Answer) (w′ : World) (l′ : Log) : Type 0 where
+  pub committed : (n : ℕ) → x ≡ done n → Commits-next l l′ a b × Stands T S l′ (w′ .board .memory) a
+  pub half : (r : Fault) (n : ℕ) → x ≡ refused r n → Commits-next l l′ a b ↔ ((r .cause ≡ power-lost) × (w′ .board .register .journal ≡ some (record { at = a; line = line-at T S a (suc (counter-in l a)) b })))
+  pub keeps : (q : ℕ) → q < T .data-lines → (q ≡ a → ⊥) → Same-commit l l′ q
 
--- The law of writes.
+-- What a flush leaves of them, and of the dirty map.
+pub record Flush-part (T : Shape) (l : Log) (x : Answer) (w′ : World) (l′ : Log) : Type 0 where
+  pub clean : (n : ℕ) → x ≡ done n → (p : ℕ) → p < T .lines → w′ .board .register .dirty p ≡ false
+  pub keeps : (q : ℕ) → q < T .data-lines → Same-commit l l′ q
+
 module _ (shapes : ℕ → Shape) (S : Scheme) (w : World) (L : TreeLaws (shape-of shapes (w .board))) (cap : ℕ) (t : Table) (l : Log) (W : Open-holds shapes (shape-of shapes (w .board)) S l (view-of (w .board) t)) where
   abbrev T : Shape
   T = shape-of shapes (w .board)
@@ -109,18 +114,16 @@ module _ (shapes : ℕ → Shape) (S : Scheme) (w : World) (L : TreeLaws (shape-
   abbrev v : View
   v = view-of (w .board) t
 
-  law-of : (a : ℕ) (b : Body) → a < T .data-lines → (r : Run) → Wrote shapes T L S l v a b r → (k : ℕ) (p : Power) → Cut (w .board .power) (length (r .planned)) k p → Write-law shapes S w l a b (answer-of r k) (record { board = after (w .board) k (r .planned) p; chip = chip-of cap r k }) (log-after k (r .planned) l)
+  law-of : (a : ℕ) (b : Body) → a < T .data-lines → (r : Run) → Wrote shapes T L S l v a b r → (k : ℕ) (p : Power) → Cut (w .board .power) (length (r .planned)) k p → Write-part S T w l a b (answer-of r k) (record { board = after (w .board) k (r .planned) p; chip = chip-of cap r k }) (log-after k (r .planned) l)
   law-of a b h r wr k p c =
       record {
-        counters = (n .0, n .1, λ m f. answer-done r k m le f .2 ∙ n .2, λ y m f. answer-refused r k m y le f .0 ∙ n .2);
-        commits =
+        committed =
             λ m f.
             let z = answer-done r k m le f in
             subst (λ j. Commits-next l (log-after j (r .planned) l) a b × Stands T S (log-after j (r .planned) l) (after-writes j (r .planned) (w .board) .memory) a) (sym (z .0))
             (done-law shapes T L S l v W (w .board) refl refl a b h wr (z .1));
         half = λ y m f. half-law shapes T L S l v W (w .board) refl refl a b h wr k y (answer-refused r k m y le f .1);
         keeps = λ q i d. kept-some (full .1) q (λ z n e. ⊎-elim (λ o. omega arith) (λ o. d (e ∙ o)) n) k;
-        why = λ y m f. inr (reason y (answer-refused r k m y le f .1));
       }
     where
       le : k ≤ length (r .planned)
@@ -129,27 +132,14 @@ module _ (shapes : ℕ → Shape) (S : Scheme) (w : World) (L : TreeLaws (shape-
       full : (l₁ : Log) × Trail T S (λ q. (T .data-lines ≤ q) ⊎ (q ≡ a)) v l (r .planned) (r .view) l₁
       full = touched shapes T L S l v W (w .board) refl refl a b h wr
 
-      n : (new : Log) × (log-after k (r .planned) l ≡ new ++ l) × (commits-in k (r .planned) ≡ length new)
-      n = counted (full .1) k
-
-      reason : (y : Fault) → ((k < length (r .planned)) × (y ≡ power-lost-at k (r .planned))) ⊎ ((k ≡ length (r .planned)) × (r .ends ≡ some y)) → Has-reason S T y (record { board = after (w .board) k (r .planned) p; chip = chip-of cap r k }) (log-after k (r .planned) l)
-      reason y (inl (i, e)) = inr (inr (ap (λ z. z .cause) e, cut-lost (w .board .power) p (length (r .planned)) k c i))
-      reason y (inr (i, e)) = at (subst (λ j. Due-at shapes T L S (log-after j (r .planned) l) (after-writes j (r .planned) (w .board) .memory) y) (sym i) (due-law shapes T L S l v W (w .board) refl refl a b h wr y e))
-        where
-          at : Due-at shapes T L S (log-after k (r .planned) l) (after-writes k (r .planned) (w .board) .memory) y → Has-reason S T y (record { board = after (w .board) k (r .planned) p; chip = chip-of cap r k }) (log-after k (r .planned) l)
-          at (inl z) = inl z
-          at (inr z) = inr (inl z)
-
   -- A write beyond the data addresses.
-  beyond : (a : ℕ) (b : Body) → T .data-lines ≤ a → (k : ℕ) (p : Power) → Cut (w .board .power) 0 k p → Write-law shapes S w l a b (answer-of (stop v (fault not-data a)) k) (record { board = after (w .board) k [] p; chip = chip-of cap (stop v (fault not-data a)) k }) (log-after k [] l)
+  beyond : (a : ℕ) (b : Body) → T .data-lines ≤ a → (k : ℕ) (p : Power) → Cut (w .board .power) 0 k p → Write-part S T w l a b (answer-of (stop v (fault not-data a)) k) (record { board = after (w .board) k [] p; chip = chip-of cap (stop v (fault not-data a)) k }) (log-after k [] l)
   unfolding log-after after-writes commits-in
   beyond a b h k p c =
       record {
-        counters = ([], refl, λ m f. answer-done (stop v (fault not-data a)) k m le f .2, λ y m f. answer-refused (stop v (fault not-data a)) k m y le f .0);
-        commits = λ m f. absurd (none≢some (sym (answer-done (stop v (fault not-data a)) k m le f .1)));
+        committed = λ m f. absurd (none≢some (sym (answer-done (stop v (fault not-data a)) k m le f .1)));
         half = λ y m f. (λ z. absurd (omega (arith, z .0)), λ z. let u : _≡_ {A = ℕ} 1 10 = ap number (ap (λ q. q .cause) (is y m f) ∙ z .0) in absurd (omega arith));
         keeps = λ q i d. (refl, refl);
-        why = λ y m f. inl (sym (is y m f), h);
       }
     where
       le : k ≤ 0
@@ -158,26 +148,24 @@ module _ (shapes : ℕ → Shape) (S : Scheme) (w : World) (L : TreeLaws (shape-
       is : (y : Fault) (m : ℕ) → answer-of (stop v (fault not-data a)) k ≡ refused y m → fault not-data a ≡ y
       is y m f = ⊎-elim (λ z. absurd (omega (arith, z .0))) (λ z. some-inj (z .1)) (answer-refused (stop v (fault not-data a)) k m y le f .1)
 
-  pub write-law : (a : ℕ) (b : Body) (x : Answer) (w′ : World) (l′ : Log) → Ran cap (write-call T S cap v a b) (w .board) l x w′ l′ → Write-law shapes S w l a b x w′ l′
+  pub write-part : (a : ℕ) (b : Body) (x : Answer) (w′ : World) (l′ : Log) → Ran cap (write-call T S cap v a b) (w .board) l x w′ l′ → Write-part S T w l a b x w′ l′
   unfolding write-call
-  write-law a b x w′ l′ (k, p, c, ex, ew, el) = rw (ex, ew, el) (go (ltb a (T .data-lines)) refl c)
+  write-part a b x w′ l′ (k, p, c, ex, ew, el) = rw (ex, ew, el) (go (ltb a (T .data-lines)) refl c)
     where
       r : Bool → Run
       r d = cond d (write-at T S (T .depth (T .parent a)) cap v a b) (stop v (fault not-data a))
 
-      go : (d : Bool) → ltb a (T .data-lines) ≡ d → Cut (w .board .power) (length (r d .planned)) k p → Write-law shapes S w l a b (answer-of (r d) k) (record { board = after (w .board) k (r d .planned) p; chip = chip-of cap (r d) k }) (log-after k (r d .planned) l)
+      go : (d : Bool) → ltb a (T .data-lines) ≡ d → Cut (w .board .power) (length (r d .planned)) k p → Write-part S T w l a b (answer-of (r d) k) (record { board = after (w .board) k (r d .planned) p; chip = chip-of cap (r d) k }) (log-after k (r d .planned) l)
       go true e c = let h = ltb-true _ _ e in law-of a b h (r true) (wrote shapes T L S cap l v W a b h) k p c
       go false e c = beyond a b (ltb-false _ _ e) k p c
 
-  -- The law of flushes.
-  pub flush-law : (x : Answer) (w′ : World) (l′ : Log) → Ran cap (flush-call T S v) (w .board) l x w′ l′ → Flush-law shapes S w l x w′ l′
-  flush-law x w′ l′ (k, p, c, ex, ew, el) =
+  -- Likewise for a flush.
+  pub flush-part : (x : Answer) (w′ : World) (l′ : Log) → Ran cap (flush-call T S v) (w .board) l x w′ l′ → Flush-part T l x w′ l′
+  flush-part x w′ l′ (k, p, c, ex, ew, el) =
       rw (ex, ew, el)
       (record {
-        counters = (n .0, n .1, λ m f. answer-done r k m le f .2 ∙ n .2, λ y m f. answer-refused r k m y le f .0 ∙ n .2);
-        rests = λ m f q i. let z = answer-done r k m le f in rests (z .0) (z .1) q i;
+        clean = λ m f q i. let z = answer-done r k m le f in rests (z .0) (z .1) q i;
         keeps = λ q i. kept-some (g .trail) q (λ z n e. omega arith) k;
-        why = λ y m f. reason y (answer-refused r k m y le f .1);
       })
     where
       r : Run
@@ -189,25 +177,12 @@ module _ (shapes : ℕ → Shape) (S : Scheme) (w : World) (L : TreeLaws (shape-
       le : k ≤ length (r .planned)
       le = cut-le (w .board .power) p (length (r .planned)) k c
 
-      n : (new : Log) × (log-after k (r .planned) l ≡ new ++ l) × (commits-in k (r .planned) ≡ length new)
-      n = counted (g .trail) k
-
       rests : k ≡ length (r .planned) → r .ends ≡ none → (q : ℕ) → q < T .lines → after-writes k (r .planned) (w .board) .register .dirty q ≡ false
       rests i e q j =
           let (_, m, _) = after-writes-all shapes T L S (g .trail) (w .board) refl refl in
-          let u = warm-trail shapes T L S W (g .trail) in
+          let u = open-after shapes T L S W (g .trail) in
           ap (λ z. after-writes z (r .planned) (w .board) .register .dirty q) i ∙ ap (λ z. z .dirty q) m ∙ at (r .view .table q) (u .slots-hold .exact q) (flush-ends shapes T L S l v W e q j)
         where
           at : (o : Option Slot) → Exact T (g .log) (r .view .register .dirty) o q → is-dirty o ≡ false → r .view .register .dirty q ≡ false
           at (some s) x y = x .0 ∙ y
           at none x y = x
-
-      reason : (y : Fault) → ((k < length (r .planned)) × (y ≡ power-lost-at k (r .planned))) ⊎ ((k ≡ length (r .planned)) × (r .ends ≡ some y)) → Has-reason S T y (record { board = after (w .board) k (r .planned) p; chip = chip-of cap r k }) (log-after k (r .planned) l)
-      reason y (inl (i, e)) = inr (inr (ap (λ z. z .cause) e, cut-lost (w .board .power) p (length (r .planned)) k c i))
-      reason y (inr (i, e)) =
-          let (m, _, q) = after-writes-all shapes T L S (g .trail) (w .board) refl refl in
-          at (subst (λ j. Due-at shapes T L S (log-after j (r .planned) l) (after-writes j (r .planned) (w .board) .memory) y) (sym i) (rw (m, q) (g .why y e)))
-        where
-          at : Due-at shapes T L S (log-after k (r .planned) l) (after-writes k (r .planned) (w .board) .memory) y → Has-reason S T y (record { board = after (w .board) k (r .planned) p; chip = chip-of cap r k }) (log-after k (r .planned) l)
-          at (inl z) = inl z
-          at (inr z) = inr (inl z)

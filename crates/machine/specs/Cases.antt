@@ -6,11 +6,12 @@ use mathlib.Core.List.{List}
 use mathlib.Core.Option.{Option, some, none}
 use lib.Dec.{eqb}
 use lib.ListN.{length}
-use Rattle.suite.specs.Scheme.{Body, Line, Scheme, tag-of}
+use Rattle.suite.specs.Scheme.{Body, Scheme, tag-of}
 use Rattle.machine.specs.Layout.{eight-ary, restored, lines-of, update}
-use Rattle.machine.specs.Store.{line-at, commits-in}
+use Rattle.machine.specs.Store.{line-at, Log, commits-in}
 use Rattle.machine.specs.Faults.{fault, err, corrupt, sum-mismatch}
 use Rattle.machine.specs.Plans.{View, Run, new-register, write-call, read-call, recover}
+use Rattle.machine.specs.History.{World, counter-in, Reached}
 use Rattle.machine.specs.Words.{row, dirty-of, words-of}
 
 -- A board of two levels just formatted and brought up.
@@ -69,6 +70,8 @@ pub record Worked-cases : Type 0 where
   pub root : (S : Scheme) (b d : Body) → after-20 S b d .view .register .roots 1 ≡ 1
   pub map : (S : Scheme) (b d : Body) → row (words-of (after-20 S b d .view .register)) 22 ≡ 4
   pub sum : (S : Scheme) (b d : Body) → after-20 S b d .view .register .dirty-sum ≡ 1
+  -- there is a history in which line 3 was committed once since format
+  pub history : (w : World) × (l : Log) × Reached eight-ary zero-suite w l × (counter-in l 3 ≡ 1)
   -- a replayed line is refused by a read, and by a bring-up through the dirty sum
   pub replayed-read : read-call (eight-ary 2) zero-suite after-replay 13 ≡ err (fault corrupt 13)
   pub replayed-bring-up : (before-replay .register .dirty-sum ≡ 3) × (recover (eight-ary 2) zero-suite (after-replay .memory) (after-replay .register) ≡ err (fault sum-mismatch 0))

@@ -20,15 +20,20 @@ pub record Shape : Type 0 where
 pub record TreeLaws (T : Shape) : Type 0 where
   pub some-lines : 1 ≤ T .lines
   pub data-in : T .data-lines ≤ T .lines
+  -- a parent is a node, at a higher address, or the root
   pub parent-above : (a : ℕ) → a < T .lines → a < T .parent a
   pub parent-node : (a : ℕ) → a < T .lines → T .data-lines ≤ T .parent a
   pub parent-in : (a : ℕ) → a < T .lines → T .parent a ≤ T .lines
+  -- a line is the child of its parent at its index
   pub index-in : (a : ℕ) → a < T .lines → T .index a < T .arity (T .parent a)
   pub child-index : (a : ℕ) → a < T .lines → T .child (T .parent a) (T .index a) ≡ a
+  -- a node's children are lines, and it is their parent
   pub child-in : (p i : ℕ) → T .data-lines ≤ p → p ≤ T .lines → i < T .arity p → T .child p i < T .lines
   pub parent-child : (p i : ℕ) → T .data-lines ≤ p → p ≤ T .lines → i < T .arity p → T .parent (T .child p i) ≡ p
   pub index-child : (p i : ℕ) → T .data-lines ≤ p → p ≤ T .lines → i < T .arity p → T .index (T .child p i) ≡ i
+  -- the children of one node are all data lines, or none is
   pub leaf-children : (a b : ℕ) → a < T .data-lines → b < T .lines → T .parent a ≡ T .parent b → b < T .data-lines
+  -- steps to the root
   pub depth-root : T .depth (T .lines) ≡ 0
   pub depth-parent : (a : ℕ) → a < T .lines → T .depth a ≡ suc (T .depth (T .parent a))
 
@@ -105,3 +110,9 @@ sixteen-ary h =
       depth = depth-by (λ a. cond (ltb a (16 * 8 ^ h)) (16 * 8 ^ h + a / 16) (16 * 8 ^ h + 8 ^ h + (a - 16 * 8 ^ h) / 8)) (16 * 8 ^ h + lines-of h) (suc h);
       limit = λ a. cond (ltb a (16 * 8 ^ h)) 4294967295 counter-limit;
     }
+
+-- The layouts of one to four levels whose leaves have sixteen counters; one level has no leaf.
+abbrev pub sixteen-leaves : ℕ → Shape
+sixteen-leaves zero = eight-ary 0
+sixteen-leaves (suc zero) = eight-ary 1
+sixteen-leaves (suc (suc h)) = sixteen-ary (suc h)

@@ -9,7 +9,7 @@ pub mod validity;
 ghost use mathlib.Core.Path.{_≡_};
 ghost use mathlib.Core.List.{[], _∷_};
 ghost use Rattle.machine.specs.Layout.{lines-of, counter-limit};
-ghost use Rattle.machine.specs.Promises.{History-holds};
+ghost use Rattle.machine.specs.Promises.{History-holds, Laws-decide};
 ghost use Rattle.machine.specs.Cases.{Worked-cases};
 use crate::counter::LIMIT;
 
@@ -20,9 +20,10 @@ fn largest_counter() -> u64
     LIMIT
 }
 
-// In every history of a board, at every point, the promises hold: see specs/Promises.antt. No counter goes past the one answered.
+// In every history of a board, at every point, the promises hold, and the laws among them leave a write and a flush no choice: see specs/Promises.antt. No counter goes past the one answered.
 pub fn history_holds() -> u64
     ensures promises { λ _. ⌜ History-holds ⌝ }
+    ensures decided { λ _. ⌜ Laws-decide ⌝ }
     ensures limit { λ r. ⌜ r ≡ counter-limit ⌝ }
 {
     largest_counter()

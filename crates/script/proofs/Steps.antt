@@ -1,16 +1,19 @@
 -- Reading a step: which text is none.
 use mathlib.Core.Path.{_≡_, refl, sym, _∙_, ap, subst}
 use mathlib.Core.Bool.{cond}
+use mathlib.Core.Logic.{_⊎_, inl, inr}
 use mathlib.Core.List.{List, [], _∷_, _++_}
 use Prim.Native.Nat.{ℕ}
 use native.Mathlib.Omega.{arith}
 use lib.Chars.{codes}
-use lib.Dec.{eqb}
+use lib.Dec.{eqb, lit<}
 use lib.ListN.{length, getD}
 use Rattle.std.proofs.shelf.Lists.{append-cancel-left}
 use Rattle.std.specs.declared.option.Option.{Option}
 use Rattle.std.specs.declared.option.Option.the-variants.{Some, None}
-use Rattle.text.specs.Spelling.{Reads, Decimal, Numbers}
+use Rattle.std.proofs.shelf.Tests.{cases-eq}
+use Rattle.text.specs.Spelling.{Reads, Unambiguous, After, Decimal, Numbers}
+use Rattle.text.proofs.Single.{decimal-once, numbers-once, after-once}
 use Rattle.script.specs.Script.{Limit, One, letter-of, Arguments, Lettered, StepLine}
 use Rattle.script.specs.declared.types.Step.{Step}
 use Rattle.script.specs.declared.types.Step.the-variants.{Read, Write, Flush, Restart, Recharge, Copy, Put}
@@ -65,3 +68,58 @@ step-read t u c v e f None h = λ s w.
     let k : v ≡ w .0 = cc in
     let l : letter-of s ≡ c = cc in
     h s (l, subst (λ (x : List ℕ). Arguments x s) (sym k) (w .2))
+
+-- a step by its letter and its numbers
+abbrev rebuilt : ℕ → List ℕ → Step
+rebuilt c ns =
+    cond (eqb c 114) (Read (getD ns 0 0)) (cond (eqb c 119) (Write (getD ns 0 0) (getD ns 1 0)) (cond (eqb c 115) Flush (cond (eqb c 100) Restart (cond (eqb c 107) (Copy (getD ns 0 0)) (Put (getD ns 0 0))))))
+
+none-there : (u : List ℕ) → u ≡ [] → Numbers 0 u []
+none-there u e = record { many = refl; each = e }
+
+module _ (u : List ℕ) where
+  numbered : (s : Step) → (letter-of s ≡ 112 → ⊥) → Arguments u s → (ns : List ℕ) × (s ≡ rebuilt (letter-of s) ns) × Numbers (arity (letter-of s)) u ns
+  numbered (Read a) n h = (a ∷ [], refl, h)
+  numbered (Write a b) n h = (a ∷ b ∷ [], refl, h)
+  numbered Flush n h = ([], refl, none-there u h)
+  numbered Restart n h = ([], refl, none-there u h)
+  numbered (Recharge l) n h = absurd (n refl)
+  numbered (Copy a) n h = (a ∷ [], refl, h)
+  numbered (Put a) n h = (a ∷ [], refl, h)
+
+  limited : (s : Step) → letter-of s ≡ 112 → Arguments u s → (l : Option ℕ) × (s ≡ Recharge l) × After (codes " ") Limit u l
+  limited (Read a) e h = let z : ⊥ = omega (arith, e) in absurd z
+  limited (Write a b) e h = let z : ⊥ = omega (arith, e) in absurd z
+  limited Flush e h = let z : ⊥ = omega (arith, e) in absurd z
+  limited Restart e h = let z : ⊥ = omega (arith, e) in absurd z
+  limited (Recharge l) e h = (l, refl, h)
+  limited (Copy a) e h = let z : ⊥ = omega (arith, e) in absurd z
+  limited (Put a) e h = let z : ⊥ = omega (arith, e) in absurd z
+
+no-number : (t : List ℕ) (n : ℕ) → Decimal t n → t ≡ codes "none" → ⊥
+no-number t n h e = let d = subst (λ (x : List ℕ). Decimal x n) e h in omega (arith, d .digits 0 (lit< tt) .1)
+
+limit-once : Unambiguous Limit
+limit-once t (Some a) (Some b) h k = ap Some (decimal-once t a b h k)
+limit-once t (Some a) None h k = absurd (no-number t a h k)
+limit-once t None (Some b) h k = absurd (no-number t b k h)
+limit-once t None None h k = refl
+
+-- behind one letter, one step
+arguments-once : (u : List ℕ) (r s : Step) → letter-of r ≡ letter-of s → (letter-of s ≡ 112) ⊎ (letter-of s ≡ 112 → ⊥) → Arguments u r → Arguments u s → r ≡ s
+arguments-once u r s e (inl f) h k =
+    let p = limited u r (e ∙ f) h in
+    let q = limited u s f k in
+    p .1 ∙ ap Recharge (after-once (codes " ") Limit limit-once u (p .0) (q .0) (p .2) (q .2)) ∙ sym (q .1)
+arguments-once u r s e (inr n) h k =
+    let p = numbered u r (λ f. n (sym e ∙ f)) h in
+    let q = numbered u s n k in
+    let m = numbers-once (arity (letter-of s)) u (p .0) (q .0) (subst (λ c. Numbers (arity c) u (p .0)) e (p .2)) (q .2) in
+    p .1 ∙ (λ i. rebuilt (e i) (m i)) ∙ sym (q .1)
+
+pub step-once : Unambiguous StepLine
+step-once t r s h k =
+    let f : letter-of r ∷ h .0 ≡ letter-of s ∷ k .0 = append-cancel-left (codes "step=") _ _ (sym (h .1) ∙ k .1) in
+    let l : letter-of r ≡ letter-of s = cc in
+    let u : h .0 ≡ k .0 = cc in
+    arguments-once (k .0) r s l (cases-eq (letter-of s) 112) (subst (λ (x : List ℕ). Arguments x r) u (h .2)) (k .2)

@@ -1,6 +1,4 @@
-ghost use mathlib.Core.List.{List, [], _∷_};
-ghost use Prim.Native.Nat.{ℕ};
-ghost use Rattle.text.specs.Spelling.{Reads, Numbers};
+ghost use Rattle.text.specs.Spelling.{Reads, Unambiguous};
 ghost use Rattle.script.specs.Script.{Limit, Lettered, StepLine, One};
 use crate::types::Step;
 use text::after;
@@ -53,9 +51,10 @@ fn read_arguments(letter: char, text: &[u8]) -> Option<Step>
     }
 }
 
-// A step.
+// A step. No line spells two.
 pub fn read_step(line: &[u8]) -> Option<Step>
-    ensures { λ r. ⌜ Reads StepLine (now (line .entry)) r ⌝ }
+    ensures single { λ _. ⌜ Unambiguous StepLine ⌝ }
+    ensures reads { λ r. ⌜ Reads StepLine (now (line .entry)) r ⌝ }
 {
     let (letter, rest) = first(after(line, b"step=")?)?;
     read_arguments(letter, rest)

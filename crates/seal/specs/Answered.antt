@@ -77,6 +77,10 @@ abbrev pub Printed : List (List ℕ) → List ℕ → Type 0
 Printed [] out = out ≡ bad 1
 Printed (l ∷ ls) out = (r : Option Known) × Reads SuiteLine l r × Cases r (out ≡ bad 1) (λ s. Keyed s ls out)
 
+-- There is no second such text.
+abbrev pub Single : (List ℕ → Type 0) → Type 0
+Single P = (out other : List ℕ) → P out → P other → out ≡ other
+
 -- What the header says: what is printed for the lines behind it is printed for all, or a line of it is bad.
 abbrev pub HeaderRead : List (List ℕ) → Result (Known × KeyPair × RefT (List ℕ)) ℕ → Type 0
 HeaderRead ls (Ok h) = (out : List ℕ) → Rows (scheme-of (h .0) (h .1)) 3 (lines-of (h .2 .now)) out → Printed ls out

@@ -3,7 +3,7 @@ ghost use mathlib.Core.List.{_++_};
 ghost use Rattle.std.specs.Of.String.{string-bytes};
 ghost use Rattle.std.specs.Vec.{made};
 ghost use Rattle.text.specs.Spelling.{lines-of};
-ghost use Rattle.seal.specs.Answered.{bad, scheme-of, Adds, Rows, Printed, HeaderRead};
+ghost use Rattle.seal.specs.Answered.{bad, scheme-of, Adds, Rows, Printed, Single, HeaderRead};
 use crate::answering::answer;
 use crate::printing::AnswerDisplay;
 use crate::reading::read_item;
@@ -77,9 +77,10 @@ fn print_all(input: &[u8], out: &mut String) -> fmt::Result
     }
 }
 
-// What the program prints for an input.
+// What the program prints for an input: for each input one text.
 pub fn transcript(heap: Global, input: &[u8]) -> Result<String, fmt::Error>
-    ensures { λ r. ⌜ made r (λ s. Printed (lines-of (now (input .entry))) (string-bytes s)) ⌝ }
+    ensures single { λ _. ⌜ Single (Printed (lines-of (now (input .entry)))) ⌝ }
+    ensures printed { λ r. ⌜ made r (λ s. Printed (lines-of (now (input .entry))) (string-bytes s)) ⌝ }
 {
     let mut out = String::new(heap);
     print_all(input, &mut out)?;

@@ -9,8 +9,7 @@ use lib.ListN.{length, getD, take, drop}
 use lib.Dec.{lit<}
 use Rattle.std.proofs.shelf.Lists.{drop-more, drop-all, length-drop, length-take-le, getD-take, getD-drop}
 use Rattle.std.proofs.shelf.Counted.{fill-by-all}
-use Rattle.sip.specs.declared.state.SipState.{SipState}
-use Rattle.sip.specs.Sip.{le, word, last-word, absorbed, compress, finish, siphash24}
+use Rattle.sip.specs.Sip.{le, word, last-word, absorbed, compress}
 
 -- A number of n bytes is below 256 ^ n.
 le-lt : (bs : List ℕ) → ((i : ℕ) → getD bs i 0 < 256) → le bs < 256 ^ length bs
@@ -61,8 +60,3 @@ word-from bs i x h e =
 pub absorbed-more : (key m : List ℕ) (i : ℕ) → absorbed key m (i + 1) ≡ compress (absorbed key m i) (word m i)
 unfolding absorbed
 absorbed-more key m i = rw add-one refl
-
--- All words.
-pub hashed : (key m : List ℕ) (s t : SipState) (i w r : ℕ) → i ≡ length m / 8 → s ≡ absorbed key m i → w ≡ last-word m → t ≡ compress s w → r ≡ finish t → r ≡ siphash24 key m
-unfolding siphash24
-hashed key m s t i w r n e f g h = cc

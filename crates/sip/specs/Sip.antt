@@ -79,5 +79,5 @@ absorbed key m zero = start key
 absorbed key m (suc i) = compress (absorbed key m i) (word m i)
 
 -- SipHash-2-4 of a message of bytes under a key of 16 bytes.
-unfoldable pub siphash24 : List ℕ → List ℕ → ℕ
+abbrev pub siphash24 : List ℕ → List ℕ → ℕ
 siphash24 key m = finish (compress (absorbed key m (length m / 8)) (last-word m))

@@ -7,7 +7,9 @@ use crate::state::SipState;
 use crate::words::last_word;
 use crate::words::word_at;
 ghost use mathlib.Core.Path.{_≡_};
-ghost use Rattle.sip.specs.Sip.{siphash24};
+ghost use Prim.Native.Nat.{_/_};
+ghost use lib.ListN.{length};
+ghost use Rattle.sip.specs.Sip.{absorbed, siphash24};
 
 // A key of SipHash.
 #[derive(Clone, Copy)]
@@ -22,14 +24,21 @@ impl SipKey {
         SipKey { bytes: *bytes }
     }
 
-    // The hash of a message under this key.
-    pub fn hash(&self, message: &[u8]) -> u64
-        ensures { λ r. ⌜ r ≡ siphash24 (now (self .entry) .bytes) (now (message .entry)) ⌝ }
+    // The state after the whole words of a message.
+    fn absorb(&self, message: &[u8]) -> SipState
+        ensures { λ r. ⌜ r ≡ absorbed (now (self .entry) .bytes) (now (message .entry)) (length (now (message .entry)) / 8) ⌝ }
     {
         let mut state = SipState::start(&self.bytes);
         for i in 0..message.len() / 8 {
             state = state.compress(word_at(message, 8 * i));
         }
-        state.compress(last_word(message)).finish()
+        state
+    }
+
+    // The hash of a message under this key.
+    pub fn hash(&self, message: &[u8]) -> u64
+        ensures { λ r. ⌜ r ≡ siphash24 (now (self .entry) .bytes) (now (message .entry)) ⌝ }
+    {
+        self.absorb(message).compress(last_word(message)).finish()
     }
 }

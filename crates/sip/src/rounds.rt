@@ -2,23 +2,41 @@
 use crate::state::SipState;
 use crate::words::word_at;
 ghost use mathlib.Core.Path.{_≡_};
-ghost use Rattle.sip.specs.Sip.{sip-round, compress, start, finish};
+ghost use Rattle.sip.specs.Sip.{first-half, second-half, sip-round, compress, start, finish};
 
 impl SipState {
+    // v0 takes v1, and v2 takes v3.
+    fn first_half(self) -> SipState
+        ensures { λ r. ⌜ r ≡ first-half self ⌝ }
+    {
+        let v0 = self.v0.wrapping_add(self.v1);
+        let v2 = self.v2.wrapping_add(self.v3);
+        SipState {
+            v0: v0.rotate_left(32),
+            v1: self.v1.rotate_left(13) ^ v0,
+            v2,
+            v3: self.v3.rotate_left(16) ^ v2,
+        }
+    }
+
+    // v0 takes v3, and v2 takes v1.
+    fn second_half(self) -> SipState
+        ensures { λ r. ⌜ r ≡ second-half self ⌝ }
+    {
+        let v0 = self.v0.wrapping_add(self.v3);
+        let v2 = self.v2.wrapping_add(self.v1);
+        SipState {
+            v0,
+            v1: self.v1.rotate_left(17) ^ v2,
+            v2: v2.rotate_left(32),
+            v3: self.v3.rotate_left(21) ^ v0,
+        }
+    }
+
     fn round(self) -> SipState
         ensures { λ r. ⌜ r ≡ sip-round self ⌝ }
     {
-        let mut v0 = self.v0.wrapping_add(self.v1);
-        let mut v1 = self.v1.rotate_left(13) ^ v0;
-        v0 = v0.rotate_left(32);
-        let mut v2 = self.v2.wrapping_add(self.v3);
-        let mut v3 = self.v3.rotate_left(16) ^ v2;
-        v0 = v0.wrapping_add(v3);
-        v3 = v3.rotate_left(21) ^ v0;
-        v2 = v2.wrapping_add(v1);
-        v1 = v1.rotate_left(17) ^ v2;
-        v2 = v2.rotate_left(32);
-        SipState { v0, v1, v2, v3 }
+        self.first_half().second_half()
     }
 
     // The state before the first word.

@@ -13,7 +13,7 @@ use borrow.Author.Tests.{eq-eqb}
 use Rattle.std.proofs.shelf.Tests.{cases-lt}
 use Rattle.std.proofs.shelf.Lists.{getD-past}
 use Rattle.suite.specs.Scheme.{Body, Line, Scheme, tag-of, right, mix, sealed, data-line, node-line}
-use Rattle.suite.specs.Words.{row, line-in, open-data, open-node}
+use Rattle.suite.specs.Words.{row, open-data, open-node}
 
 -- A pad undoes itself.
 pub mix-undo : (b p : Body) → mix (mix b p) p ≡ b
@@ -41,11 +41,3 @@ module _ (S : Scheme) (a c : ℕ) where
 
   pub node-undone : (L : Line) (b : Body) → L ≡ node-line S a c b → open-node S a c L ≡ some b
   node-undone L b e = ap (open-node S a c) e ∙ ap (λ x. cond x (some b) none) (sealed-right b)
-
-  -- A line of stored words under their tag is the data line of its body.
-  pub data-line-eq : (out : List ℕ) (t : ℕ) (b p : Body) → row out ≡ mix b p → p ≡ S .pad a c → t ≡ tag-of S a (row out) c → line-in (record { body = out; tag = t }) ≡ data-line S a c b
-  data-line-eq out t b p e k h = ap (λ x. record { words = row out; tag = x }) h ∙ ap (sealed S a c) (e ∙ ap (mix b) k)
-
-  -- A line of counters under their tag is the node line.
-  pub node-line-eq : (ws : List ℕ) (t : ℕ) → t ≡ tag-of S a (row ws) c → line-in (record { body = ws; tag = t }) ≡ node-line S a c (row ws)
-  node-line-eq ws t h = ap (λ x. record { words = row ws; tag = x }) h

@@ -4,3 +4,4 @@ pub mod Pieces
 pub mod Hexes
 pub mod Rows
 pub mod Readers
+pub mod Single

@@ -16,6 +16,10 @@ abbrev pub Reads : {A : Type 0} → (List ℕ → A → Type 0) → List ℕ →
 Reads Spells t (Some a) = Spells t a
 Reads {A} Spells t None = (a : A) → Spells t a → ⊥
 
+-- No text spells two values.
+abbrev pub Unambiguous : {A : Type 0} → (List ℕ → A → Type 0) → Type 0
+Unambiguous {A} Spells = (t : List ℕ) (a b : A) → Spells t a → Spells t b → a ≡ b
+
 -- What stands behind a prefix.
 abbrev pub Behind : List ℕ → List ℕ → List ℕ → Type 0
 Behind p t rest = t ≡ p ++ rest

@@ -1,4 +1,4 @@
--- Marks, one bit at a time.
+-- The dirty map of the slots, one bit at a time.
 use Prim.Native.Nat.{ℕ, zero, suc, _+_, _-_, _*_, _/_, _%_, _^_, _≤_, _<_}
 use mathlib.Core.Path.{_≡_, refl, sym, ap, _∙_, subst, fun-ext}
 use mathlib.Core.Logic.{_⊎_, inl, inr}
@@ -64,7 +64,7 @@ zero-at zero (suc x) = refl
 zero-at (suc n) zero = refl
 zero-at (suc n) (suc x) = zero-at n x
 
--- No marks for no slots.
+-- No bit is set for no slots.
 pub map-none : (h : ℕ) (ss : List Slot) (p : ℕ) → map-in h (replicate 10 0) p ≡ is-dirty (rows-in ss 0 p)
 map-none h ss p = ap (λ x. leb (8 ^ h) p && eqb (x / 2 ^ ((p - 8 ^ h) % 64) % 2) 1) (zero-at 10 ((p - 8 ^ h) / 64)) ∙ ap (λ x. leb (8 ^ h) p && eqb (x % 2) 1) (zero-div (2 ^ ((p - 8 ^ h) % 64))) ∙ off (leb (8 ^ h) p) ∙ sym (ap is-dirty (table-missing ss 0 p (λ k b f. omega arith)))
   where

@@ -1,6 +1,5 @@
-use borrow.Author.Needs.{needs}
 use native.Mathlib.Omega.{arith}
-use mathlib.Core.Path.{_≡_, sym, ap, _∙_}
+use mathlib.Core.Path.{sym, ap, _∙_}
 use mathlib.Core.Logic.{inl, inr}
 use Rattle.std.proofs.shelf.Tests.{both-ways, eq-eqb, eqb-true}
 use Rattle.machine.specs.Layout.{eight-ary}

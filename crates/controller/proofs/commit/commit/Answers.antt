@@ -1,10 +1,9 @@
 use borrow.Author.Needs.{needs}
 use native.Mathlib.Omega.{arith}
-use mathlib.Core.Path.{_≡_, refl, sym, ap, _∙_, subst}
-use mathlib.Core.Option.{Option, some, none}
-use Prim.Native.Nat.{_+_, _<_, _≤_}
+use mathlib.Core.Path.{refl, sym, ap, _∙_, subst}
+use mathlib.Core.Option.{some}
 use Rattle.std.proofs.shelf.Results.{err-from-errBy}
-use Rattle.machine.specs.Faults.{fault, number, at-limit, ok, err}
+use Rattle.machine.specs.Faults.{fault, number, at-limit}
 use Rattle.machine.specs.Words.{row}
 use Rattle.machine.specs.Plans.{Run, counter-of}
 use Rattle.tree.specs.Layouts.{shape-in}

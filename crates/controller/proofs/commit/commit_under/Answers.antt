@@ -1,11 +1,11 @@
 use native.Mathlib.Omega.{arith}
-use mathlib.Core.Path.{_≡_, refl, sym, ap, _∙_, subst}
+use mathlib.Core.Path.{sym, ap, _∙_, subst}
 use mathlib.Core.List.{List}
 use Prim.Native.Nat.{ℕ}
 use Rattle.std.proofs.shelf.Results.{err-from-errBy}
 use Rattle.machine.specs.Store.{line-at}
 use Rattle.machine.specs.Words.{row}
-use Rattle.machine.specs.Plans.{sum-of, is-dirty}
+use Rattle.machine.specs.Plans.{sum-of}
 use Rattle.tree.specs.Layouts.{shape-in}
 use Rattle.tree.specs.SlotTable.{table-in, map-in}
 use Rattle.tree.specs.declared.types.Layout.{Layout}

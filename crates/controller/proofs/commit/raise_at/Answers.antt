@@ -1,7 +1,7 @@
 use borrow.Author.Needs.{needs}
 use native.Mathlib.Omega.{arith}
-use mathlib.Core.Path.{refl, ap, _∙_}
-use Rattle.controller.proofs.CommitParts.{raise-node, words-node, raise-root, words-root}
+use mathlib.Core.Path.{_∙_}
+use Rattle.controller.proofs.CommitParts.{raise-node, words-node}
 use Rattle.controller.proofs.commit.raise_at.Needs as need
 
 pub returns : need.returns

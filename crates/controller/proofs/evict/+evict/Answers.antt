@@ -1,13 +1,12 @@
 use borrow.Author.Needs.{needs}
 use native.Mathlib.Omega.{arith}
-use mathlib.Core.Path.{_≡_, refl, sym, ap, _∙_, subst}
-use mathlib.Core.Option.{Option, some, none}
-use mathlib.Core.Bool.{true, false}
+use mathlib.Core.Path.{_≡_, sym, ap, _∙_, subst}
+use mathlib.Core.Option.{some}
+use mathlib.Core.Bool.{false}
 use Prim.Native.Nat.{_+_, _/_, _^_, _<_}
 use Rattle.std.proofs.shelf.Results.{err-from-errBy}
 use Rattle.machine.specs.Layout.{eight-ary, lines-of}
-use Rattle.machine.specs.Faults.{Fault}
-use Rattle.machine.specs.Plans.{Run, View, is-dirty, overdue, evict-now, evict}
+use Rattle.machine.specs.Plans.{Run, overdue, evict-now, evict}
 use Rattle.machine.proofs.Basics.{none≢some}
 use Rattle.machine.proofs.EightAry.{eight-trees}
 use Rattle.tree.specs.Layouts.{shape-in}

@@ -1,19 +1,17 @@
 use borrow.Author.Needs.{needs}
 use native.Mathlib.Omega.{arith}
-use mathlib.Core.Path.{_≡_, refl, sym, ap, _∙_, subst}
-use mathlib.Core.Bool.{false}
-use mathlib.Core.Option.{Option, some, none}
-use Prim.Native.Nat.{ℕ, suc, _+_, _-_, _<_, _≤_}
+use mathlib.Core.Path.{_≡_, sym, ap, _∙_, subst}
+use mathlib.Core.Option.{some, none}
+use Prim.Native.Nat.{suc, _+_, _-_}
 use Rattle.machine.specs.Layout.{eight-ary, lines-of}
 use Rattle.std.proofs.shelf.Results.{err-from-errBy}
-use Rattle.machine.specs.Faults.{Fault}
 use Rattle.machine.specs.Plans.{Run, is-dirty, dirty-count, evict, evict-until}
 use Rattle.machine.proofs.Basics.{none≢some}
 use Rattle.tree.specs.Layouts.{shape-in}
 use Rattle.tree.specs.SlotTable.{table-in, Lowest}
 use Rattle.tree.specs.declared.types.Layout.{Layout}
 use Rattle.controller.specs.Views.{view-in, tree-fault, Fits}
-use Rattle.controller.specs.Runs.{Went, ended}
+use Rattle.controller.specs.Runs.{Went}
 use Rattle.controller.specs.Registers.{Left-slot}
 use Rattle.controller.proofs.SlotFacts.{used-is}
 use Rattle.controller.proofs.Chains.{went-then, went-stop}

@@ -1,4 +1,4 @@
-use mathlib.Core.Path.{_≡_, refl, sym, ap, _∙_, subst}
+use mathlib.Core.Path.{ap, _∙_}
 use mathlib.Core.Option.{some, none}
 use Rattle.std.proofs.shelf.Results.{err-from-errBy}
 use Rattle.controller.specs.declared.types.TreeFault.the-variants.{Board}

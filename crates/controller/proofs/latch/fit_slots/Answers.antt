@@ -1,8 +1,4 @@
-use native.Mathlib.Omega.{arith}
-use mathlib.Core.Path.{_≡_, refl, sym, ap, _∙_}
-use mathlib.Core.Logic.{_⊎_, inl, inr}
-use Prim.Native.Nat.{ℕ, _<_, _≤_}
-use Rattle.std.proofs.shelf.Tests.{cases-lt}
+use mathlib.Core.Path.{sym, ap, _∙_}
 use Rattle.tree.specs.declared.types.Layout.{Layout}
 use Rattle.controller.proofs.SlotFacts.{other-clean}
 use Rattle.controller.proofs.latch.fit_slots.Needs as need

@@ -1,12 +1,10 @@
 use native.Mathlib.Omega.{arith}
-use mathlib.Core.Path.{_≡_, refl, sym, ap, _∙_}
 use Rattle.std.proofs.shelf.Results.{err-from-errBy}
 use Rattle.machine.specs.Faults.{err}
-use Rattle.machine.specs.Words.{row}
 use Rattle.machine.proofs.EightAry.{eight-trees}
 use Rattle.tree.specs.SlotTable.{table-in}
 use Rattle.controller.specs.Views.{tree-fault}
-use Rattle.controller.proofs.ReadSteps.{read-within, read-opened, read-corrupt}
+use Rattle.controller.proofs.ReadSteps.{read-within, read-answers}
 use Rattle.controller.proofs.open.data_body.Needs as need
 
 pub counter-of-requires : need.counter-of-requires
@@ -20,10 +18,6 @@ returns-in-Break-counter g c =
 pub returns-in-Break-line : need.returns-in-Break-line
 returns-in-Break-line g c = absurd (omega (arith, eight-trees (c .args .layout .levels) (c .args .layout .low) (c .args .layout .high) .data-in, c .pre .1, c .pre .0 .enough, c .in-Break-line .ensures tt .0))
 
-pub returns-in-Some : need.returns-in-Some
-returns-in-Some g c =
-    read-opened (c .args .layout .levels) (g .B·Board .meaning (c .args .board .now)) (g .S·Suite .scheme (c .args .suite .now)) (table-in (c .args .slots .now)) (c .args .at) (c .pre .1) (c .in-Continue-counter .counter) (c .in-Continue-counter .ensures tt) (c .in-Continue-line .line) (c .in-Continue-line .ensures tt .1) (row (c .in-Some .body)) (c .in-Some .ensures tt)
-
-pub returns-in-None : need.returns-in-None
-returns-in-None g c =
-    read-corrupt (c .args .layout .levels) (g .B·Board .meaning (c .args .board .now)) (g .S·Suite .scheme (c .args .suite .now)) (table-in (c .args .slots .now)) (c .args .at) (c .pre .1) (c .in-Continue-counter .counter) (c .in-Continue-counter .ensures tt) (c .in-Continue-line .line) (c .in-Continue-line .ensures tt .1) (c .in-None .ensures tt)
+pub returns : need.returns
+returns g c =
+    read-answers (c .args .layout .levels) (g .B·Board .meaning (c .args .board .now)) (g .S·Suite .scheme (c .args .suite .now)) (table-in (c .args .slots .now)) (c .args .at) (c .pre .1) (c .in-Continue-counter .counter) (c .in-Continue-counter .ensures tt) (c .in-Continue-line .line) (c .in-Continue-line .ensures tt .1) (c .open-data .result) (c .open-data .ensures) (c .opened .result) (c .opened .ensures)

@@ -1,8 +1,7 @@
-use borrow.Author.Needs.{needs}
 use native.Mathlib.Omega.{arith}
-use mathlib.Core.Path.{_≡_, refl, sym, ap, _∙_, subst}
-use mathlib.Core.Option.{some, none}
-use Prim.Native.Nat.{ℕ, _+_, _-_, _^_, _<_, _≤_}
+use mathlib.Core.Path.{_≡_, sym, ap, _∙_, subst}
+use mathlib.Core.Option.{some}
+use Prim.Native.Nat.{_+_, _-_, _^_, _<_, _≤_}
 use Rattle.std.proofs.shelf.Results.{err-from-errBy}
 use Rattle.machine.specs.Layout.{eight-ary, lines-of, update}
 use Rattle.machine.specs.Words.{register-in}
@@ -10,7 +9,7 @@ use Rattle.machine.specs.Plans.{Table, restore, restore-node}
 use Rattle.machine.proofs.EightAry.{eight-trees}
 use Rattle.tree.specs.Layouts.{shape-in}
 use Rattle.tree.specs.Tables.{slot-in}
-use Rattle.tree.specs.SlotTable.{table-in, no-slots, Fit-to-push}
+use Rattle.tree.specs.SlotTable.{table-in, Fit-to-push}
 use Rattle.tree.specs.declared.types.Layout.{Layout}
 use Rattle.controller.specs.Views.{tree-fault, view-in}
 use Rattle.controller.specs.Restores.{map-below}

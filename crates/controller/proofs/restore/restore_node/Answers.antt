@@ -1,4 +1,3 @@
-use borrow.Author.Needs.{needs}
 use mathlib.Core.Path.{sym, _∙_}
 use Rattle.std.proofs.shelf.Results.{err-from-errBy}
 use Rattle.tree.specs.SlotTable.{table-in}

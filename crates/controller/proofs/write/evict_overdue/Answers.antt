@@ -1,6 +1,6 @@
 use native.Mathlib.Omega.{arith}
-use mathlib.Core.Path.{_≡_, refl, sym, ap, _∙_, subst}
-use mathlib.Core.Option.{Option, some, none}
+use mathlib.Core.Path.{refl, sym, _∙_, subst}
+use mathlib.Core.Option.{none}
 use Rattle.machine.specs.Plans.{Run}
 use Rattle.tree.specs.SlotTable.{table-in}
 use Rattle.controller.specs.Runs.{Went, ended}

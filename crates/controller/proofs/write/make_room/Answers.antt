@@ -1,7 +1,7 @@
 use native.Mathlib.Omega.{arith}
 use mathlib.Core.Path.{_≡_, refl, sym, ap, _∙_, subst}
-use mathlib.Core.Option.{Option, some, none}
-use Prim.Native.Nat.{_+_, _-_, _/_, _^_, _<_, _≤_}
+use mathlib.Core.Option.{some, none}
+use Prim.Native.Nat.{_+_, _/_, _^_}
 use Rattle.std.proofs.shelf.Results.{err-from-errBy}
 use Rattle.machine.specs.Layout.{eight-ary, lines-of}
 use Rattle.machine.specs.Plans.{Run, make-room, evict-overdue, evict-until}
@@ -112,8 +112,9 @@ returns g c =
     let f = c .evict-until .ensures in
     let o = ended (c .evict-until .result) in
     let cap = c .args .capacity in
-    let went = subst (λ (y : Layout). Went (evict-until (shape-in y) K (c .args .capacity - 1) (shape-in y .lines) (view-in M₁ T₁)) M₁ (ended (c .evict-until .result)) M₂ T₂ (c .evict-overdue .last .commits) (c .evict-until .last .commits)) (d .layout) (f .went) in
-    let freed = subst (λ (y : Layout). Freed (shape-in y) (c .args .capacity - 1) T₁ (ended (c .evict-until .result)) (s₂ .used) T₂) (d .layout) (f .freed) in
+    let keep = c .beside-one-more .ensures in
+    let went = subst (λ k. Went (evict-until (eight-ary h) K k (lines-of h) (view-in M₁ T₁)) M₁ o M₂ T₂ (c .evict-overdue .last .commits) (c .evict-until .last .commits)) keep (subst (λ (y : Layout). Went (evict-until (shape-in y) K (c .beside-one-more .result) (shape-in y .lines) (view-in M₁ T₁)) M₁ (ended (c .evict-until .result)) M₂ T₂ (c .evict-overdue .last .commits) (c .evict-until .last .commits)) (d .layout) (f .went)) in
+    let freed = subst (λ k. Freed (eight-ary h) k T₁ o (s₂ .used) T₂) keep (subst (λ (y : Layout). Freed (shape-in y) (c .beside-one-more .result) T₁ (ended (c .evict-until .result)) (s₂ .used) T₂) (d .layout) (f .freed)) in
     let bare = sym (c .if-holds .left) ∙ c .holds .ensures in
     let leaf = leaf-low h K cap M T (c .args .at) p q (s .layout .low) (s .layout .high) (c .pre .0 .1) in
     record {

@@ -5,4 +5,4 @@ use Rattle.suite.proofs.sealing.is_right.Needs as need
 
 pub returns : need.returns
 unfolding right
-returns g c = ap (eqb (c .args .line .now .tag)) (c .tag .ensures)
+returns g c = ap (eqb (c .args .line .now .tag)) (c .wanted-tag .ensures)

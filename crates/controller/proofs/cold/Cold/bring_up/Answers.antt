@@ -1,4 +1,3 @@
-use borrow.Author.Needs.{needs}
 use mathlib.Core.Path.{refl}
 use Rattle.controller.specs.Worlds.{world-in, report-by}
 use Rattle.controller.proofs.BringUpSteps.{settled-brings, brings-keep, brings-keep-others}

@@ -3,4 +3,4 @@ use Rattle.controller.proofs.cold.Cold.tamper.Needs as need
 
 pub returns : need.returns
 returns g c =
-    record { law = λ K. cold-tampered K (g .B·Board .meaning (c .args .self .now .board)) (g .B·Board .meaning (c .put .last .self)) (c .args .at) (c .args .line) (c .put .result) (c .put .ensures); put = c .put .ensures }
+    record { law = λ K. cold-tampered K (g .B·Board .meaning (c .args .self .now .board)) (g .B·Board .meaning (c .put-line .last .board)) (c .args .at) (c .args .line) (c .put-line .result) (c .put-line .ensures); put = c .put-line .ensures }

@@ -1,9 +1,6 @@
-use borrow.Author.Needs.{needs}
 use native.Mathlib.Omega.{arith}
-use mathlib.Core.Path.{_≡_, refl, sym, ap, _∙_}
-use Rattle.std.proofs.shelf.Results.{err-from-errBy}
-use Rattle.machine.specs.Faults.{err}
-use Rattle.machine.specs.History.{refused, read-answer}
+use mathlib.Core.Path.{ap}
+use Rattle.machine.specs.History.{read-answer}
 use Rattle.tree.specs.SlotTable.{table-in}
 use Rattle.controller.proofs.ReadSteps.{read-beyond}
 use Rattle.controller.proofs.Doing.{answers-read}

@@ -1,4 +1,4 @@
-use mathlib.Core.Path.{_≡_, refl, sym, ap, _∙_, subst}
+use mathlib.Core.Path.{refl, subst}
 use Rattle.machine.specs.Layout.{eight-ary, lines-of}
 use Rattle.machine.specs.Plans.{evict-until}
 use Rattle.tree.specs.SlotTable.{table-in}

@@ -1,7 +1,6 @@
-use mathlib.Core.Path.{_≡_, refl, sym, ap, _∙_}
+use mathlib.Core.Path.{refl}
 use Rattle.std.proofs.shelf.Results.{err-from-errBy}
-use Rattle.controller.specs.Views.{fault-of}
-use Rattle.controller.proofs.Keeping.{read-kept}
+use Rattle.controller.proofs.Keeping.{read-kept, read-latched}
 use Rattle.controller.proofs.open.Open.read.Needs as need
 
 pub returns-in-Break-found : need.returns-in-Break-found
@@ -13,6 +12,7 @@ returns-in-Break-found g c =
     let e = c .in-Break-found .ensures tt in
     record {
       law = rw (x .1, x .2) (read-kept K m (s .chip) (c .args .at) _ e);
+      others = rw (x .1, x .2) (read-latched K m (s .chip) (c .args .at) _ e);
       does = rw (x .1, x .2) e;
       zeros = rw (x .1) refl;
     }
@@ -23,4 +23,4 @@ returns g c =
     let m = g .B·Board .meaning (s .board) in
     let K = g .S·Suite .scheme (s .suite) in
     let e = c .in-Continue-found .ensures tt in
-    record { law = read-kept K m (s .chip) (c .args .at) _ e; does = e; zeros = tt }
+    record { law = read-kept K m (s .chip) (c .args .at) _ e; others = read-latched K m (s .chip) (c .args .at) _ e; does = e; zeros = tt }

@@ -14,7 +14,7 @@ returns g c =
         _,
         refl,
         two-events S (world-in (g .B·Board .meaning (c .args .self .board)) (c .args .self .chip)) (cold-in (g .B·Board .meaning (c .shut-down .result .board))) (world-in (g .B·Board .meaning (c .bring-up-next .result .0 .board)) (c .bring-up-next .result .0 .chip))
-            shut-down (bring-up (c .args .slots) (S .number)) nothing (report-by (c .bring-up-next .result .1) 0) (answer-in (c .reply .result)) (c .shut-down .ensures .law) (c .bring-up-next .ensures .law) (c .reply .ensures),
+            shut-down (bring-up (c .args .slots) (S .number)) nothing (report-by (c .bring-up-next .result .1) 0) (answer-in (c .reply .result)) (c .shut-down .ensures .law S) (c .bring-up-next .ensures .law) (c .reply .ensures),
       );
       does =
           subst (λ y. Brings-up S (c .args .slots) (g .B·Board .meaning y) (answer-in (c .reply .result)) (g .B·Board .meaning (c .bring-up-next .result .0 .board)) (world-in (g .B·Board .meaning (c .bring-up-next .result .0 .board)) (c .bring-up-next .result .0 .chip))) (c .shut-down .ensures .board)

@@ -17,7 +17,7 @@ returns g c =
         _,
         (supply, refl),
         three-events S (world-in (g .B·Board .meaning (c .args .self .board)) (c .args .self .chip)) (cold-in (g .B·Board .meaning (c .shut-down-cold .result .board))) (cold-in (g .B·Board .meaning (c .recharge .last .self .board))) (world-in (g .B·Board .meaning (c .bring-up-next .result .0 .board)) (c .bring-up-next .result .0 .chip))
-            shut-down (recharge (lesser (c .args .left) supply)) (bring-up (c .args .slots) (S .number)) nothing nothing (report-by (c .bring-up-next .result .1) 0) (answer-in (c .reply .result)) (c .shut-down-cold .ensures .law) (c .recharge .ensures .law S) (c .bring-up-next .ensures .law) (c .reply .ensures),
+            shut-down (recharge (lesser (c .args .left) supply)) (bring-up (c .args .slots) (S .number)) nothing nothing (report-by (c .bring-up-next .result .1) 0) (answer-in (c .reply .result)) (c .shut-down-cold .ensures .law S) (c .recharge .ensures .law S) (c .bring-up-next .ensures .law) (c .reply .ensures),
       );
       does = (
         g .B·Board .meaning (c .recharge .last .self .board),

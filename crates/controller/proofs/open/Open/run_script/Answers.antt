@@ -1,14 +1,17 @@
 use borrow.Author.Needs.{needs}
-use mathlib.Core.Path.{_≡_, refl, sym, _∙_, ap, subst}
+use mathlib.Core.Path.{_≡_, refl, _∙_, subst}
 use native.Mathlib.Omega.{arith}
 use Prim.Native.Nat.{ℕ}
-use lib.ListN.{length, getD, take, drop}
-use Rattle.std.proofs.shelf.Lists.{length-set, drop-set-lt}
+use lib.ListN.{length, getD, take}
+use Rattle.std.proofs.shelf.Lists.{length-set}
 use Rattle.controller.specs.declared.event.Event.the-variants.{Read}
 use Rattle.controller.specs.Worlds.{world-in}
 use Rattle.controller.specs.Scripts.{Plays, Plays-one, Does-one, Does-all}
-use Rattle.controller.proofs.ScriptSteps.{script-more, script-does, dropped-more, dropped-all}
+use Rattle.controller.proofs.ScriptSteps.{plays-none, script-more, script-does, dropped-more, dropped-all}
 use Rattle.controller.proofs.open.Open.run_script.Needs as need
+
+pub loop-i-holds : need.loop-i-holds
+loop-i-holds g c = (plays-none (g .S·Suite .scheme (c .args .self .suite)) (c .args .slots) (world-in (g .B·Board .meaning (c .args .self .board)) (c .args .self .chip)), (refl, refl), refl, refl, refl)
 
 pub loop-i-again : need.loop-i-again
 loop-i-again g c =

@@ -1,5 +1,5 @@
 use Rattle.machine.specs.Words.{row}
-use Rattle.controller.proofs.Keeping.{write-kept}
+use Rattle.controller.proofs.Keeping.{write-kept, write-latched}
 use Rattle.controller.proofs.open.Open.write.Needs as need
 
 pub returns : need.returns
@@ -10,6 +10,7 @@ returns g c =
     let d = c .write-counted-outcome .ensures in
     record {
       law = write-kept K m (s .chip) (c .args .at) (row (c .args .body .now)) _ (g .B·Board .meaning (c .write-counted-outcome .last .self .board)) (c .write-counted-outcome .last .self .chip) (d .does);
+      others = write-latched K m (s .chip) _ (c .args .at) (row (c .args .body .now)) _ (g .B·Board .meaning (c .write-counted-outcome .last .self .board)) (c .write-counted-outcome .last .self .chip) (d .does);
       does = d .does;
       suite = d .suite;
     }

@@ -1,5 +1,5 @@
 use native.Mathlib.Omega.{arith}
-use mathlib.Core.Path.{_≡_, refl, sym, ap, _∙_, subst}
+use mathlib.Core.Path.{refl, sym, subst}
 use Rattle.machine.specs.Faults.{fault, not-data}
 use Rattle.machine.specs.Layout.{eight-ary}
 use Rattle.machine.specs.Plans.{write-call}
