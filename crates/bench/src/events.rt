@@ -17,7 +17,7 @@ fn put_of(copy: Option<Line>, at: u64) -> Option<Event>
 }
 
 // What a step asks of the board, if anything.
-pub fn event_of(step: &Step, copy: Option<Line>) -> Option<Event>
+pub(crate) fn event_of(step: &Step, copy: Option<Line>) -> Option<Event>
     ensures { λ r. ⌜ r ≡ event-of copy (now (step .entry)) ⌝ }
 {
     match step {
@@ -35,7 +35,7 @@ pub fn event_of(step: &Step, copy: Option<Line>) -> Option<Event>
 }
 
 // The copy that is kept after a step.
-pub fn copy_after<B: Board>(board: &B, step: &Step, copy: Option<Line>) -> Option<Line>
+pub(crate) fn copy_after<B: Board>(board: &B, step: &Step, copy: Option<Line>) -> Option<Line>
     ensures { λ r. ⌜ r ≡ copy-after (B·Board .meaning (now (board .entry))) copy (now (step .entry)) ⌝ }
 {
     let Step::Copy(at) = step else {

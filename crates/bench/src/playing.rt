@@ -1,5 +1,7 @@
 // A script on any board that can be tampered with and recharged.
 ghost use mathlib.Core.Path.{_≡_};
+ghost use mathlib.Core.List.{_++_};
+ghost use Prim.Native.Nat.{_+_, _^_, _<_};
 ghost use Rattle.std.specs.Of.String.{string-bytes};
 ghost use Rattle.std.specs.Vec.{made};
 ghost use Rattle.std.specs.declared.option.Option.the-variants.{None};
@@ -7,6 +9,7 @@ ghost use Rattle.text.specs.Spelling.{lines-of};
 ghost use Rattle.machine.specs.History.{format as formatting, bring-up as bringing-up};
 ghost use Rattle.controller.specs.Worlds.{cold-in, world-in, report-by, Formats, Keeps};
 ghost use Rattle.controller.specs.BringUps.{Brings-up};
+ghost use Rattle.bench.specs.Rows.{bad};
 ghost use Rattle.bench.specs.Printed.{Played, Rows, Table, Run, Adds};
 use crate::events::copy_after;
 use crate::events::event_of;
@@ -44,7 +47,15 @@ fn play<B: Tamper + Recharge, S: Suite + Copy>(
     }
 }
 
-// Runs the steps of a text, and adds a row for each, up to the first unreadable line. The lines before them are five.
+// Adds what is printed where the line of a step is unreadable: five lines stand before the steps.
+fn print_bad_step(step: u64, out: &mut String) -> fmt::Result
+    requires { ⌜ step + 5 < 2 ^ 64 ⌝ }
+    ensures { λ r. ⌜ made r (λ _. string-bytes (now (out .exit)) ≡ string-bytes (now (out .entry)) ++ bad (step + 5)) ⌝ }
+{
+    print_bad(step + 5, out)
+}
+
+// Runs the steps of a text, and adds a row for each, up to the first unreadable line.
 fn play_steps<B: Tamper + Recharge, S: Suite + Copy>(
     opened: Open<B, S>,
     slots: u64,
@@ -59,7 +70,7 @@ fn play_steps<B: Tamper + Recharge, S: Suite + Copy>(
     let mut rest = text;
     while let Some((line, behind)) = next_line(rest) {
         let Some(step) = read_step(line) else {
-            return (open, print_bad(number + 5, out));
+            return (open, print_bad_step(number, out));
         };
         let kept = copy_after(open.board(), &step, copy);
         let (next, reply) = play(open, slots, event_of(&step, copy));
@@ -109,7 +120,7 @@ fn print_table<B: Tamper + Recharge, S: Suite + Copy>(
 }
 
 // Formats the board, brings it up and runs the steps of a text, and adds what is printed of all that.
-pub fn play_script<B: Tamper + Recharge, S: Suite + Copy>(
+pub(crate) fn play_script<B: Tamper + Recharge, S: Suite + Copy>(
     board: B,
     suite: S,
     header: &Header,

@@ -13,7 +13,7 @@ use tree::dirty_map::map_of;
 use tree::types::Layout;
 
 // The row of a step: its reply, and the dirty nodes and the dirty sum that the register then has.
-pub fn row_of(step: u64, reply: &Reply, register: &[u64; 32]) -> Row
+pub(crate) fn row_of(step: u64, reply: &Reply, register: &[u64; 32]) -> Row
     ensures { λ r. ⌜ r ≡ row-of step (now (reply .entry)) (now (register .entry)) ⌝ }
 {
     let mut row = Row {
@@ -71,7 +71,7 @@ fn print_made(result: u64, lines: u64, out: &mut String) -> fmt::Result
 }
 
 // Adds what is printed of format, and the head of the table.
-pub fn print_head(outcome: Result<(), Fault>, levels: u64, out: &mut String) -> fmt::Result
+pub(crate) fn print_head(outcome: Result<(), Fault>, levels: u64, out: &mut String) -> fmt::Result
     ensures { λ r. ⌜ made r (λ _. string-bytes (now (out .exit)) ≡ string-bytes (now (out .entry)) ++ head-text outcome levels) ⌝ }
 {
     print_made(result_of(outcome), lines_needed(levels), out)?;
@@ -79,7 +79,7 @@ pub fn print_head(outcome: Result<(), Fault>, levels: u64, out: &mut String) -> 
 }
 
 // Adds what is printed at an unreadable line.
-pub fn print_bad(line: u64, out: &mut String) -> fmt::Result
+pub(crate) fn print_bad(line: u64, out: &mut String) -> fmt::Result
     ensures { λ r. ⌜ made r (λ _. string-bytes (now (out .exit)) ≡ string-bytes (now (out .entry)) ++ bad line) ⌝ }
 {
     writeln!(out, "bad={line}")

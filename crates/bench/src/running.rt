@@ -1,5 +1,6 @@
 // The bench: a script on a memory of 584 lines under a fuse.
 ghost use mathlib.Core.Path.{_≡_};
+ghost use lib.ListN.{replicate};
 ghost use Rattle.std.specs.Of.String.{string-bytes};
 ghost use Rattle.std.specs.Vec.{made};
 ghost use Rattle.text.specs.Spelling.{lines-of};
@@ -29,6 +30,15 @@ const SUITES: [u64; 2] = [1, 2];
 // The words of 584 lines.
 const WORDS: usize = 9 * 584;
 
+// Memory of these words, under a fuse.
+fn fused_memory(words: &mut [u64], left: Option<u64>) -> Fuse<Memory<'_>>
+    ensures words { λ r. ⌜ now (r .below .words) ≡ now (words .entry) ⌝ }
+    ensures register { λ r. ⌜ r .below .register ≡ replicate 32 0 ⌝ }
+    ensures left { λ r. ⌜ r .left ≡ left ⌝ }
+{
+    Fuse::new(Memory::new(words), left)
+}
+
 // Runs a script on memory of these words, under the fuse of its header.
 fn play_on_memory<S: Suite + Copy>(
     suite: S,
@@ -39,7 +49,7 @@ fn play_on_memory<S: Suite + Copy>(
 ) -> fmt::Result
     ensures { λ r. ⌜ made r (λ _. Adds (Run (S·Suite .scheme suite) (now (header .entry)) (lines-of (now (text .entry))) (on-memory (now (words .entry)) (now (header .entry) .fuse))) (string-bytes (now (out .entry))) (string-bytes (now (out .exit)))) ⌝ }
 {
-    let board = Fuse::new(Memory::new(words), header.fuse);
+    let board = fused_memory(words, header.fuse);
     let (_board, printed) = play_script(board, suite, header, text, out);
     printed
 }
@@ -75,7 +85,7 @@ fn print_all(input: &[u8], out: &mut String) -> fmt::Result
 }
 
 // What the program prints for an input.
-pub fn transcript(heap: Global, input: &[u8]) -> Result<String, fmt::Error>
+pub(crate) fn transcript(heap: Global, input: &[u8]) -> Result<String, fmt::Error>
     ensures { λ r. ⌜ made r (λ s. Printed (lines-of (now (input .entry))) (string-bytes s)) ⌝ }
 {
     let mut out = String::new(heap);

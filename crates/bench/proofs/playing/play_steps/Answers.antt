@@ -15,9 +15,9 @@ loop-line-holds g c = (refl, rows-none (g .S·Suite .scheme (c .args .opened .su
 
 pub returns-in-rest-read-step : need.returns-in-rest-read-step
 returns-in-rest-read-step g c =
-    made-weaker (c .print-bad .result) _ _
+    made-weaker (c .print-bad-step .result) _ _
     (λ _ e. rows-bad (g .S·Suite .scheme (c .args .opened .suite)) (c .args .slots) (c .args .text .now) (g .B·Board .meaning (c .args .opened .board)) (c .args .opened .chip) (c .loop-line .rest .now) (c .loop-line .number) (g .B·Board .meaning (c .loop-line .open .board)) (c .loop-line .open .chip) (c .loop-line .copy) (string-bytes (c .args .out .now)) (string-bytes (c .loop-line .out)) (c .loop-line .inv .1) _ _ (c .in-Some .ensures tt) _ (c .in-rest-read-step .ensures tt .reads) e)
-    (c .print-bad .ensures)
+    (c .print-bad-step .ensures)
 
 pub loop-line-less : need.loop-line-less
 loop-line-less g c = line-shorter _ _ _ (c .in-Some .ensures tt)

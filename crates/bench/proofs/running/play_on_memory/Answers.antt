@@ -18,9 +18,10 @@ of-parts ws ws′ reg reg′ left left′ p q r =
 
 pub returns : need.returns
 returns g c =
-    let same : fused (memory (c .new-board .result .below .words .now) (c .new-board .result .below .register)) (c .new-board .result .left) ≡ on-memory (c .args .words .now) (c .args .header .now .fuse) =
-    of-parts (c .new-board .result .below .words .now) (c .args .words .now) (c .new-board .result .below .register) (replicate 32 0) (c .new-board .result .left) (c .args .header .now .fuse)
-    (ap (λ b. b .words .now) (c .new-board .ensures .0) ∙ c .new .ensures .0) (ap (λ b. b .register) (c .new-board .ensures .0) ∙ c .new .ensures .1) (c .new-board .ensures .1) in
+    let b = c .fused-memory-board .result in
+    let same : fused (memory (b .below .words .now) (b .below .register)) (b .left) ≡ on-memory (c .args .words .now) (c .args .header .now .fuse) =
+        of-parts (b .below .words .now) (c .args .words .now) (b .below .register) (replicate 32 0) (b .left) (c .args .header .now .fuse)
+        (c .fused-memory-board .ensures .words) (c .fused-memory-board .ensures .register) (c .fused-memory-board .ensures .left) in
     made-weaker (c .play-script-board .result .1) _ _
     (λ _ e. (e .0, e .1, subst (λ (y : Meaning). Run (g .S·Suite .scheme (c .args .suite)) (c .args .header .now) (lines-of (c .args .text .now)) y (e .0)) same (e .2)))
     (c .play-script-board .ensures)
