@@ -95,7 +95,11 @@ fn format<B: Board, S: Suite>(cold: &mut Cold<B>, suite: &S, header: &Header) ->
 }
 
 // Brings the board up as the header says.
-fn bring_up<B: Board, S: Suite>(cold: Cold<B>, suite: S, header: &Header) -> (Open<B, S>, Result<(), Fault>)
+fn bring_up<B: Board, S: Suite>(
+    cold: Cold<B>,
+    suite: S,
+    header: &Header,
+) -> (Open<B, S>, Result<(), Fault>)
     ensures does { λ r. ⌜ Brings-up (S·Suite .scheme suite) (now (header .entry) .slots) (B·Board .meaning (cold .board)) (report-by (r .1) 0) (B·Board .meaning (r .0 .board)) (world-in (B·Board .meaning (r .0 .board)) (r .0 .chip)) ⌝ }
     ensures law { λ r. ⌜ Keeps (S·Suite .scheme suite) (cold-in (B·Board .meaning (cold .board))) (bringing-up (now (header .entry) .slots) (S·Suite .scheme suite .number)) (report-by (r .1) 0) (world-in (B·Board .meaning (r .0 .board)) (r .0 .chip)) ⌝ }
     ensures suite { λ r. ⌜ r .0 .suite ≡ suite ⌝ }

@@ -20,8 +20,8 @@ pub returns : need.returns
 returns g c =
     let b = c .fused-memory-board .result in
     let same : fused (memory (b .below .words .now) (b .below .register)) (b .left) ≡ on-memory (c .args .words .now) (c .args .header .now .fuse) =
-        of-parts (b .below .words .now) (c .args .words .now) (b .below .register) (replicate 32 0) (b .left) (c .args .header .now .fuse)
-        (c .fused-memory-board .ensures .words) (c .fused-memory-board .ensures .register) (c .fused-memory-board .ensures .left) in
+    of-parts (b .below .words .now) (c .args .words .now) (b .below .register) (replicate 32 0) (b .left) (c .args .header .now .fuse)
+    (c .fused-memory-board .ensures .words) (c .fused-memory-board .ensures .register) (c .fused-memory-board .ensures .left) in
     made-weaker (c .play-script-board .result .1) _ _
     (λ _ e. (e .0, e .1, subst (λ (y : Meaning). Run (g .S·Suite .scheme (c .args .suite)) (c .args .header .now) (lines-of (c .args .text .now)) y (e .0)) same (e .2)))
     (c .play-script-board .ensures)
