@@ -18,7 +18,7 @@ module _ (T : Shape) (L : TreeLaws T) (S : Scheme) (v : View) (a : ℕ) (h : a <
   pub counter_root : T.lines ≤ T.parent a → counter_of T S v a ≡ ok (v.register.roots (T.index a))
   unfolding counter_of counter_at
   counter_root k =
-      let e : T.parent a ≡ T.lines = omega (arith, L.parent_in_lem a h) in
+      let e : T.parent a ≡ T.lines = omega (arith, L.parent_in a h) in
       let r : T.depth (T.parent a) ≡ 0 = ap T.depth e ∙ L.depth_root in
       ap (λ n. counter_at T S v n a) r
 

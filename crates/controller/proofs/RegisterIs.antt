@@ -50,7 +50,7 @@ module _ (h : ℕ) (m : Meaning) (F : Fits h m) (S : Scheme) (t : Table) (a c : 
       go : (8 ^ h + a / 8 < lines_of h) ⊎ (lines_of h ≤ 8 ^ h + a / 8) → raised_slots (eight_ary h) v.memory t a c ≡ raise_table (eight_ary h) depth v.memory t a c
       go (inl x) = ap (λ b. cond b (update t (8 ^ h + a / 8) (some (raised (slot_for v.memory (t (8 ^ h + a / 8)) (8 ^ h + a / 8)) (a % 8) c))) t) (lt-ltb (8 ^ h + a / 8) (lines_of h) x) ∙ sym (ap (λ n. raise_table (eight_ary h) n v.memory t a c) (L.depth_parent (8 ^ h + a / 8) x))
       go (inr x) =
-          let e : 8 ^ h + a / 8 ≡ lines_of h = omega (arith, L.parent_in_lem a k) in
+          let e : 8 ^ h + a / 8 ≡ lines_of h = omega (arith, L.parent_in a k) in
           ap (λ b. cond b (update t (8 ^ h + a / 8) (some (raised (slot_for v.memory (t (8 ^ h + a / 8)) (8 ^ h + a / 8)) (a % 8) c))) t) (le-ltb (8 ^ h + a / 8) (lines_of h) x) ∙ sym (ap (λ n. raise_table (eight_ary h) n v.memory t a c) (ap (eight_ary h).depth e ∙ L.depth_root))
 
   -- The root's counters after a commit.
@@ -60,7 +60,7 @@ module _ (h : ℕ) (m : Meaning) (F : Fits h m) (S : Scheme) (t : Table) (a c : 
       go : (8 ^ h + a / 8 < lines_of h) ⊎ (lines_of h ≤ 8 ^ h + a / 8) → row (take 8 (drop 3 (root_words (eight_ary h) a c m.register))) ≡ raise_roots (eight_ary h) depth (row (take 8 (drop 3 m.register))) a c
       go (inl x) = ap (λ b. row (take 8 (drop 3 (cond b m.register (set m.register (3 + a % 8) c))))) (lt-ltb (8 ^ h + a / 8) (lines_of h) x) ∙ sym (ap (λ n. raise_roots (eight_ary h) n (row (take 8 (drop 3 m.register))) a c) (L.depth_parent (8 ^ h + a / 8) x))
       go (inr x) =
-          let e : 8 ^ h + a / 8 ≡ lines_of h = omega (arith, L.parent_in_lem a k) in
+          let e : 8 ^ h + a / 8 ≡ lines_of h = omega (arith, L.parent_in a k) in
           ap (λ b. row (take 8 (drop 3 (cond b m.register (set m.register (3 + a % 8) c))))) (le-ltb (8 ^ h + a / 8) (lines_of h) x) ∙ root_row m.register (a % 8) c (omega arith) n ∙ sym (ap (λ n. raise_roots (eight_ary h) n (row (take 8 (drop 3 m.register))) a c) (ap (eight_ary h).depth e ∙ L.depth_root))
 
   -- A word outside the root's counters.

@@ -47,7 +47,7 @@ module _ (h : ℕ) (S : Scheme) (m : Meaning) (t : Table) (a : ℕ) where
             ap (λ z. and_then (cond z (and_then (evict_overdue (eight_ary h) S v (8 ^ h + a / 8)) (λ u. make_room (eight_ary h) S cap (8 ^ h + a / 8) u (u.table (8 ^ h + a / 8)))) (stay v)) (λ u. commit (eight_ary h) S u u.table a b)) (lt-ltb (8 ^ h + a / 8) (lines_of h) n)
             ∙ sym (ap (λ r. write_at (eight_ary h) S r cap v a b) (L.depth_parent (8 ^ h + a / 8) n))
         go (inr n) =
-            let e : 8 ^ h + a / 8 ≡ lines_of h = omega (arith, L.parent_in_lem a (omega (arith, L.data_in))) in
+            let e : 8 ^ h + a / 8 ≡ lines_of h = omega (arith, L.parent_in a (omega (arith, L.data_in))) in
             ap (λ z. and_then (cond z (and_then (evict_overdue (eight_ary h) S v (8 ^ h + a / 8)) (λ u. make_room (eight_ary h) S cap (8 ^ h + a / 8) u (u.table (8 ^ h + a / 8)))) (stay v)) (λ u. commit (eight_ary h) S u u.table a b)) (le-ltb (8 ^ h + a / 8) (lines_of h) n)
             ∙ sym (ap (λ r. write_at (eight_ary h) S r cap v a b) (ap (eight_ary h).depth e ∙ L.depth_root))
 

@@ -136,7 +136,7 @@ module _ (shapes : ℕ → Shape) (T : Shape) (L : TreeLaws T) (S : Scheme) wher
           plan_then (Evicted T l (T.parent A)) (λ k j. j ≡ with_next k A (counters_in T k A)) (Evicted T l A) l v first_run (λ u. evict_now T S u A) p
           (λ n.
           now_plan p.log first_run.view (open_after shapes T L S w p.trail) A
-          (ap is_dirty (slots n A (omega (arith, L.parent_Above A k)) ∙ update_other v.table (T.parent A) none A (λ g. omega (arith, g, L.parent_Above A k))) ∙ h)
+          (ap is_dirty (slots n A (omega (arith, L.parent_above A k)) ∙ update_other v.table (T.parent A) none A (λ g. omega (arith, g, L.parent_above A k))) ∙ h)
           (subst CanRaise (sym (slots n (T.parent A) (omega arith) ∙ update_same v.table (T.parent A) none (T.parent A) refl)) tt))
           (λ k i o z. subst (Evicted T l A) (sym z) (parent_first j (overdue_many l v w (T.parent A) f) o))
           (λ k o. (record { at = A; counter = suc (counter_in k A); body = counters_in T k A } ∷ [], refl))

@@ -66,7 +66,7 @@ module _
     new_register = commit_register T v.register new_table a c (line_at T S a c b)
 
     parent_apart : P ≡ a → ⊥
-    parent_apart e = omega (arith, e, L.parent_Above a k)
+    parent_apart e = omega (arith, e, L.parent_above a k)
 
     -- Another node's children are not this line.
     child_apart : (p i : ℕ) → T.data_lines ≤ p → p ≤ T.lines → i < T.arity p → (p ≡ P → ⊥) → T.child p i ≡ a → ⊥
@@ -76,7 +76,7 @@ module _
     sibling_apart p i n h j z e = z (sym (L.index_child p i n h j) ∙ ap T.index e)
 
     child_below : (p i : ℕ) → T.data_lines ≤ p → p ≤ T.lines → i < T.arity p → T.child p i ≡ p → ⊥
-    child_below p i n h j e = omega (arith, e, L.parent_Above (T.child p i) (L.child_in p i n h j), L.parent_child p i n h j)
+    child_below p i n h j e = omega (arith, e, L.parent_above (T.child p i) (L.child_in p i n h j), L.parent_child p i n h j)
 
     -- The slots after the commit, by cases.
     at_root : P ≡ T.lines → new_table ≡ t
@@ -93,7 +93,7 @@ module _
     parent_slot h = ap (λ f. f P) (at_parent h) ∙ update_same t P _ P refl
 
     parent_cases : (P < T.lines) ⊎ (P ≡ T.lines)
-    parent_cases = ⊎_elim inl (λ y. inr (omega (arith, y, L.parent_in_lem a k))) (cases_lt P T.lines)
+    parent_cases = ⊎_elim inl (λ y. inr (omega (arith, y, L.parent_in a k))) (cases_lt P T.lines)
 
     pub other_slot : (p : ℕ) → (p ≡ P → P ≡ T.lines) → new_table p ≡ t p
     other_slot p z = go parent_cases

@@ -28,11 +28,11 @@ to_come_one x = refl
 module _ (T : Shape) (L : TreeLaws T) where
   -- Evicting A leaves the nodes below A as they were, and A level.
   next_low : (l : Log) (A : ℕ) (b : Body) → A < T.lines → (q : ℕ) → q < A → pending_in T (with_next l A b) q ≡ pending_in T l q
-  next_low l A b k q h = pending_other T l _ q (λ e. omega (arith, e)) (λ e. omega (arith, e, L.parent_Above A k))
+  next_low l A b k q h = pending_other T l _ q (λ e. omega (arith, e)) (λ e. omega (arith, e, L.parent_above A k))
 
   pub out_low : {l k : Log} {A : ℕ} → A < T.lines → Evicted T l A k → (q : ℕ) → q < A → pending_in T k q ≡ pending_in T l q
   out_low {l} {k} {A} i (alone x) q h = next_low l A _ i q h
-  out_low {l} {k} {A} i (parent_first {k = j} x y o) q h = next_low j A _ i q h ∙ out_low x o q (omega (arith, L.parent_Above A i))
+  out_low {l} {k} {A} i (parent_first {k = j} x y o) q h = next_low j A _ i q h ∙ out_low x o q (omega (arith, L.parent_above A i))
 
   pub out_own : {l k : Log} {A : ℕ} → Evicted T l A k → pending_in T k A ≡ 0
   out_own {l} {k} {A} (alone x) = pending_own T l _ A refl

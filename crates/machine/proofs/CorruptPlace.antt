@@ -47,7 +47,7 @@ module _ (shapes : ℕ → Shape) (T : Shape) (L : TreeLaws T) (S : Scheme) (l :
   unfolding counter_at
   chain_counter t zero a k e kn gi h = ap ok (root_counter shapes T L S l (at t) D a k e)
   chain_counter t (suc r) a k e kn gi h =
-      go (t (T.parent a)) refl (chain_counter t r (T.parent a) j (depth_next T L a r j e) (λ q i. kn q (omega (arith, i, L.parent_Above a k))) gi (restored a j h))
+      go (t (T.parent a)) refl (chain_counter t r (T.parent a) j (depth_next T L a r j e) (λ q i. kn q (omega (arith, i, L.parent_above a k))) gi (restored a j h))
     where
       j : T.parent a < T.lines
       j = inner_parent T L a r k e
@@ -62,7 +62,7 @@ module _ (shapes : ℕ → Shape) (T : Shape) (L : TreeLaws T) (S : Scheme) (l :
           let y : (slot_from T m (T.parent a)).counters (T.index a) ≡ child_counter T m (T.parent a) (T.index a) = ap (λ b. cond b (child_counter T m (T.parent a) (T.index a)) 0) (lt-ltb (T.index a) (T.arity (T.parent a)) (L.index_in a k)) in
           ap ok (ap (λ q. q.counters (T.index a)) z ∙ y ∙ child_true (T.parent a) (T.index a) j u (L.index_in a k) st (subst (Stands T S l m) (sym c) (h a itself)) ∙ ap (counter_in l) c)
       go none f ih =
-          let u = kn (T.parent a) (L.parent_Above a k) j f in
+          let u = kn (T.parent a) (L.parent_above a k) j f in
           rw (ih, stands_valid shapes T S l g D m L (T.parent a) (L.parent_node a k) j st) (ap ok (line_counter shapes T L S l (at t) D a k j u st))
 
   place_inj : {q z : ℕ} → fault corrupt q ≡ fault corrupt z → q ≡ z
@@ -88,7 +88,7 @@ module _ (shapes : ℕ → Shape) (T : Shape) (L : TreeLaws T) (S : Scheme) (l :
       j = inner_parent T L a r k e
 
       kn' : Known t (suc (T.parent a))
-      kn' q i = kn q (omega (arith, i, L.parent_Above a k))
+      kn' q i = kn q (omega (arith, i, L.parent_above a k))
 
       judged : (c : ℕ) → counter_at T S (at t) r (T.parent a) ≡ ok c → (b : Bool) → node_valid T S m (T.parent a) c ≡ b → (y : ℕ) → cond b (ok y) (err (fault corrupt (T.parent a))) ≡ err x → Fails x
       judged c p true so y e' q z h = absurd (err≢ok (sym e'))

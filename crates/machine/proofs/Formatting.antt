@@ -110,7 +110,7 @@ module _ (T : Shape) (S : Scheme) where
   fresh_pending L (suc n) p h k = go (cases_lt p n) (fresh_pending L n p (omega arith))
     where
       go : (p < n) ⊎ (n ≤ p) → (p < n → pending_in T (blank_log n) p ≡ 0) → pending_in T (record { at = n; counter = 0; body = λ i. 0 } ∷ blank_log n) p ≡ 0
-      go (inl y) ih = pending_other T (blank_log n) (record { at = n; counter = 0; body = λ i. 0 }) p (λ e. omega arith) (λ e. omega (arith, e, L.parent_Above n (omega arith))) ∙ ih y
+      go (inl y) ih = pending_other T (blank_log n) (record { at = n; counter = 0; body = λ i. 0 }) p (λ e. omega arith) (λ e. omega (arith, e, L.parent_above n (omega arith))) ∙ ih y
       go (inr y) ih = pending_own T (blank_log n) (record { at = n; counter = 0; body = λ i. 0 }) p (omega arith)
 
   pub fresh_length : (n : ℕ) → length (blank_log n) ≡ n

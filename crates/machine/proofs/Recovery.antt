@@ -21,7 +21,7 @@ module _ (T : Shape) (S : Scheme) where
   unfolding counter_at
   counter_agree L zero a m g t u k e h = refl
   counter_agree L (suc r) a m g t u k e h =
-      rw (h (T.parent a) (L.parent_Above a k), counter_agree L r (T.parent a) m g t u (inner_parent T L a r k e) (depth_next T L a r (inner_parent T L a r k e) e) (λ q y. h q (omega (arith, y, L.parent_Above a k))))
+      rw (h (T.parent a) (L.parent_above a k), counter_agree L r (T.parent a) m g t u (inner_parent T L a r k e) (depth_next T L a r (inner_parent T L a r k e) e) (λ q y. h q (omega (arith, y, L.parent_above a k))))
 
   -- What an accepted restoring of one node says.
   pub slot_facts : (v : View) (p : ℕ) (s : Slot) → restore_node T S v p ≡ ok s → (c : ℕ) × (counter_of T S v p ≡ ok c) × (node_valid T S v.memory p c ≡ true) × ((i : ℕ) → i < T.arity p → child_valid T S v.memory p i ≡ true) × (s ≡ slot_from T v.memory p)
@@ -410,7 +410,7 @@ module _ (T : Shape) (S : Scheme) where
     counter_place v zero a x k e h f = absurd (err≢ok (sym f))
     counter_place v (suc r) a x k e h f =
         go (v.table (T.parent a)) refl (counter_at T S v r (T.parent a))
-        (λ y. counter_place v r (T.parent a) y j (depth_next T L a r j e) (λ q i. h q (omega (arith, i, L.parent_Above a k)))) f
+        (λ y. counter_place v r (T.parent a) y j (depth_next T L a r j e) (λ q i. h q (omega (arith, i, L.parent_above a k)))) f
       where
         j : T.parent a < T.lines
         j = inner_parent T L a r k e
@@ -421,8 +421,8 @@ module _ (T : Shape) (S : Scheme) where
 
         go : (o : Option Slot) → v.table (T.parent a) ≡ o → (z : Outcome ℕ) → ((y : Fault) → z ≡ err y → (q : ℕ) × (y ≡ fault corrupt q) × Rests T v.register.dirty (T.parent a) q) → held o (T.index a) (in_line T S v.memory (T.parent a) (T.index a) z) ≡ err x → (q : ℕ) × (x ≡ fault corrupt q) × Rests T v.register.dirty a q
         go (some s) g z ih e = absurd (err≢ok (sym e))
-        go none g (ok c) ih e = judged (h (T.parent a) (L.parent_Above a k) j g) (node_valid T S v.memory (T.parent a) c) _ e
-        go none g (err y) ih e = let (q, z, n) = ih x e in (q, z, rests_up j (h (T.parent a) (L.parent_Above a k) j g) n)
+        go none g (ok c) ih e = judged (h (T.parent a) (L.parent_above a k) j g) (node_valid T S v.memory (T.parent a) c) _ e
+        go none g (err y) ih e = let (q, z, n) = ih x e in (q, z, rests_up j (h (T.parent a) (L.parent_above a k) j g) n)
 
     node_place : (v : View) (p : ℕ) (x : Fault) → p < T.lines → v.register.dirty p ≡ true → Known v (suc p) → restore_node T S v p ≡ err x → Named v.register.dirty x
     unfolding restore_node counter_of

@@ -88,7 +88,7 @@ module _ (shapes : ℕ → Shape) (T : Shape) (L : TreeLaws T) (S : Scheme) wher
               where
                 at : (o : Option Slot) → Exact T l v.register.dirty o (T.parent a) → CanRaise o → Fits T S l v.memory (T.parent a) o
                 at (some s) x r = r
-                at none x r = ⊎_elim (λ e. absurd (omega (arith, e, L.parent_Above a k))) (λ s. s) (tr.1 (T.parent a) (above itself h x))
+                at none x r = ⊎_elim (λ e. absurd (omega (arith, e, L.parent_above a k))) (λ s. s) (tr.1 (T.parent a) (above itself h x))
 
             dec : (y : Bool) → ltb c (T.limit a) ≡ y → Commits (cond y (commit_under T S v.memory v.register t a b (suc c)) (stop v (fault at_limit a)))
             dec true f =
@@ -149,7 +149,7 @@ module _ (shapes : ℕ → Shape) (T : Shape) (L : TreeLaws T) (S : Scheme) wher
       let full : T.data_lines ≤ A → (i : ℕ) → i < T.arity A → slot_counters (v.table A) i ≡ counter_in l (T.child A i) = λ _. held_full l v w.slots_hold A h in
       let bare : T.data_lines ≤ A → (i : ℕ) → T.arity A ≤ i → slot_counters (v.table A) i ≡ 0 = λ _. held_bare l v w.slots_hold A in (
         commit_run l v w (update v.table A none) A (slot_counters (v.table A)) k own others full r bare n,
-        λ e q i. commit_slots l v w (update v.table A none) A (slot_counters (v.table A)) k own others full r bare e q (λ f. omega (arith, f, L.parent_Above A k)),
+        λ e q i. commit_slots l v w (update v.table A none) A (slot_counters (v.table A)) k own others full r bare e q (λ f. omega (arith, f, L.parent_above A k)),
       )
 
   pub evict_puts : (r : ℕ) (l : Log) (v : View) → OpenHolds shapes T S l v → (A : ℕ) → is_dirty (v.table A) ≡ true → T.depth (T.parent A) ≡ r → Puts l v A (evict_at T S v r A)
@@ -175,7 +175,7 @@ module _ (shapes : ℕ → Shape) (T : Shape) (L : TreeLaws T) (S : Scheme) wher
           u = (evict_at T S v r (T.parent A)).view
 
           low : (q : ℕ) → (evict_at T S v r (T.parent A)).ends ≡ none → q ≤ A → u.table q ≡ v.table q
-          low q n i = s n q (omega (arith, i, L.parent_Above A k)) ∙ update_other v.table (T.parent A) none q (λ f. omega (arith, f, i, L.parent_Above A k))
+          low q n i = s n q (omega (arith, i, L.parent_above A k)) ∙ update_other v.table (T.parent A) none q (λ f. omega (arith, f, i, L.parent_above A k))
 
           second : (evict_at T S v r (T.parent A)).ends ≡ none → Puts g.log u A (evict_now T S u A)
           second n =

@@ -105,7 +105,7 @@ module _ (T : Shape) (S : Scheme) where
 
     now_slots : (v : View) (A : ℕ) → A < T.lines → (evict_now T S v A).ends ≡ none → (q : ℕ) → q ≤ A → (evict_now T S v A).view.table q ≡ update v.table A none q
     unfolding evict_now
-    now_slots v A k n q i = commit_slots v (update v.table A none) A (slot_counters (v.table A)) n q (λ e. omega (arith, e, L.parent_Above A k))
+    now_slots v A k n q i = commit_slots v (update v.table A none) A (slot_counters (v.table A)) n q (λ e. omega (arith, e, L.parent_above A k))
 
     held_of : (o : Option Slot) → overdue o ≡ true → is_dirty o ≡ true
     held_of (some s) e = refl
@@ -128,8 +128,8 @@ module _ (T : Shape) (S : Scheme) where
             at : first_run.ends ≡ none → (q ≡ A) ⊎ (q ≡ A → ⊥) → update first_run.view.table A none q ≡ update v.table A none q
             at n₁ (inl f) = update_same first_run.view.table A none q f ∙ sym (update_same v.table A none q f)
             at n₁ (inr f) =
-                update_other first_run.view.table A none q f ∙ ih n₁ q (omega (arith, L.parent_Above A k))
-                ∙ update_other v.table (T.parent A) none q (λ g. omega (arith, g, L.parent_Above A k)) ∙ sym (update_other v.table A none q f)
+                update_other first_run.view.table A none q f ∙ ih n₁ q (omega (arith, L.parent_above A k))
+                ∙ update_other v.table (T.parent A) none q (λ g. omega (arith, g, L.parent_above A k)) ∙ sym (update_other v.table A none q f)
         go false n ih = now_slots v A k n q i
 
     pub evict_used : (r : ℕ) (v : View) (A : ℕ) → A < T.lines → is_dirty (v.table A) ≡ true → T.depth (T.parent A) ≡ r → dirty_count T (evict_at T S v r A).view.table ≤ dirty_count T v.table
@@ -146,7 +146,7 @@ module _ (T : Shape) (S : Scheme) where
         second : dirty_count T first_run.view.table ≤ dirty_count T v.table → (o : Option Fault) → first_run.ends ≡ o → dirty_count T (chain first_run o (λ u. evict_now T S u A)).view.table ≤ dirty_count T v.table
         second i (some x) n = i
         second i none n =
-            let s : first_run.view.table A ≡ v.table A = evict_slots r v (T.parent A) j (depth_next T L A r j e) n A (omega (arith, L.parent_Above A k)) ∙ update_other v.table (T.parent A) none A (λ g. omega (arith, g, L.parent_Above A k)) in
+            let s : first_run.view.table A ≡ v.table A = evict_slots r v (T.parent A) j (depth_next T L A r j e) n A (omega (arith, L.parent_above A k)) ∙ update_other v.table (T.parent A) none A (λ g. omega (arith, g, L.parent_above A k)) in
             omega (arith, i, now_used first_run.view A k (ap is_dirty s ∙ h))
 
         go : (b : Bool) → overdue (v.table (T.parent A)) ≡ b → (is_dirty (v.table (T.parent A)) ≡ true → dirty_count T first_run.view.table ≤ dirty_count T v.table) → dirty_count T (cond b (and_then first_run (λ u. evict_now T S u A)) (evict_now T S v A)).view.table ≤ dirty_count T v.table

@@ -22,7 +22,7 @@ rests_up k u (above r i v) = above (rests_up k u r) i v
 -- What a line rests on is not below it.
 pub rests_higher : {T : Shape} {dirty : ℕ → Bool} {a q : ℕ} → TreeLaws T → a < T.lines → Rests T dirty a q → (a ≤ q) × (q < T.lines)
 rests_higher {T} L k itself = (omega arith, k)
-rests_higher {T} L k (above {q = q} r i u) = let h = rests_higher L k r in (omega (arith, h.0, L.parent_Above q h.1), i)
+rests_higher {T} L k (above {q = q} r i u) = let h = rests_higher L k r in (omega (arith, h.0, L.parent_above q h.1), i)
 
 pub rests_split : {T : Shape} {dirty : ℕ → Bool} {a q : ℕ} → Rests T dirty a q → (q ≡ a) ⊎ ((T.parent a < T.lines) × (dirty (T.parent a) ≡ false) × Rests T dirty (T.parent a) q)
 rests_split itself = inl refl
@@ -38,7 +38,7 @@ module _ (T : Shape) (L : TreeLaws T) where
     where
       go : (T.parent a < T.lines) ⊎ (T.lines ≤ T.parent a) → T.parent a ≡ T.lines
       go (inl y) = absurd (omega (arith, e, L.depth_parent (T.parent a) y))
-      go (inr y) = omega (arith, y, L.parent_in_lem a k)
+      go (inr y) = omega (arith, y, L.parent_in a k)
 
   pub inner_parent : (a r : ℕ) → a < T.lines → T.depth (T.parent a) ≡ suc r → T.parent a < T.lines
   inner_parent a r k e = go (cases_lt (T.parent a) T.lines)
@@ -46,7 +46,7 @@ module _ (T : Shape) (L : TreeLaws T) where
       go : (T.parent a < T.lines) ⊎ (T.lines ≤ T.parent a) → T.parent a < T.lines
       go (inl y) = y
       go (inr y) =
-          let z : T.parent a ≡ T.lines = omega (arith, y, L.parent_in_lem a k) in
+          let z : T.parent a ≡ T.lines = omega (arith, y, L.parent_in a k) in
           absurd (omega (arith, e, ap T.depth z, L.depth_root))
 
   pub depth_next : (a r : ℕ) → T.parent a < T.lines → T.depth (T.parent a) ≡ suc r → T.depth (T.parent (T.parent a)) ≡ r
@@ -96,8 +96,8 @@ module _ (shapes : ℕ → Shape) (T : Shape) (L : TreeLaws T) (S : Scheme) (l :
   unfolding counter_at
   counter_true zero a c k e x f h = (sym (ok_inj h) ∙ root_counter a k e, root_way a k e)
   counter_true (suc r) a c k e x f h =
-      go (v.table (T.parent a)) (x (T.parent a) (L.parent_Above a k) j) h
-      (λ c' h'. counter_true r (T.parent a) c' j (depth_next T L a r j e) (λ q y. x q (omega (arith, y, L.parent_Above a k))) (λ q y. f q (omega (arith, y, L.parent_Above a k))) h')
+      go (v.table (T.parent a)) (x (T.parent a) (L.parent_above a k) j) h
+      (λ c' h'. counter_true r (T.parent a) c' j (depth_next T L a r j e) (λ q y. x q (omega (arith, y, L.parent_above a k))) (λ q y. f q (omega (arith, y, L.parent_above a k))) h')
     where
       j : T.parent a < T.lines
       j = inner_parent T L a r k e
@@ -106,7 +106,7 @@ module _ (shapes : ℕ → Shape) (T : Shape) (L : TreeLaws T) (S : Scheme) (l :
       in_its_line u (ok c') ih h =
           let (t, y) = cond_ok _ _ _ h in
           let (z, w) = ih c' refl in
-          let st = right_stands shapes T S l v.register D v.memory (T.parent a) j (f (T.parent a) (L.parent_Above a k) j) (subst (λ n. right S (T.parent a) n (v.memory (T.parent a)) ≡ true) z (valid_right T S v.memory (T.parent a) c' t)) in
+          let st = right_stands shapes T S l v.register D v.memory (T.parent a) j (f (T.parent a) (L.parent_above a k) j) (subst (λ n. right S (T.parent a) n (v.memory (T.parent a)) ≡ true) z (valid_right T S v.memory (T.parent a) c' t)) in
           (sym (ok_inj y) ∙ line_counter a k j u st, line_way a st w)
       in_its_line u (err b) ih h = absurd (err≢ok h)
 
@@ -119,14 +119,14 @@ module _ (shapes : ℕ → Shape) (T : Shape) (L : TreeLaws T) (S : Scheme) (l :
   unfolding counter_at
   counter_found zero a k e x w = ap ok (root_counter a k e)
   counter_found (suc r) a k e x w =
-      go (v.table (T.parent a)) (x (T.parent a) (L.parent_Above a k) j) (λ u. counter_found r (T.parent a) j (depth_next T L a r j e) (λ q y. x q (omega (arith, y, L.parent_Above a k))) (λ q y. inr (st u q y)))
+      go (v.table (T.parent a)) (x (T.parent a) (L.parent_above a k) j) (λ u. counter_found r (T.parent a) j (depth_next T L a r j e) (λ q y. x q (omega (arith, y, L.parent_above a k))) (λ q y. inr (st u q y)))
     where
       j : T.parent a < T.lines
       j = inner_parent T L a r k e
 
       -- what the parent rests on, the parent too, is above the line
       higher : (q : ℕ) → Rests T v.register.dirty (T.parent a) q → a < q
-      higher q y = omega (arith, L.parent_Above a k, (rests_higher L j y).0)
+      higher q y = omega (arith, L.parent_above a k, (rests_higher L j y).0)
 
       st : v.register.dirty (T.parent a) ≡ false → (q : ℕ) → Rests T v.register.dirty (T.parent a) q → Stands T S l v.memory q
       st u q y = ⊎_elim (λ e. absurd (omega (arith, e, higher q y))) (λ s. s) (w q (rests_up j u y))
@@ -146,25 +146,25 @@ module _ (shapes : ℕ → Shape) (T : Shape) (L : TreeLaws T) (S : Scheme) (l :
   unfolding counter_at
   counter_refused zero a x k e y f h = absurd (err≢ok (sym h))
   counter_refused (suc r) a x k e y f h =
-      go (v.table (T.parent a)) (y (T.parent a) (L.parent_Above a k) j) h
-      (λ x' h'. counter_refused r (T.parent a) x' j (depth_next T L a r j e) (λ q u. y q (omega (arith, u, L.parent_Above a k))) (λ q u. f q (omega (arith, u, L.parent_Above a k))) h')
+      go (v.table (T.parent a)) (y (T.parent a) (L.parent_above a k) j) h
+      (λ x' h'. counter_refused r (T.parent a) x' j (depth_next T L a r j e) (λ q u. y q (omega (arith, u, L.parent_above a k))) (λ q u. f q (omega (arith, u, L.parent_above a k))) h')
     where
       j : T.parent a < T.lines
       j = inner_parent T L a r k e
 
       true_above : (c : ℕ) → counter_at T S v r (T.parent a) ≡ ok c → (c ≡ counter_in l (T.parent a)) × Way (T.parent a)
-      true_above c h' = counter_true r (T.parent a) c j (depth_next T L a r j e) (λ q u. y q (omega (arith, u, L.parent_Above a k))) (λ q u. f q (omega (arith, u, L.parent_Above a k))) h'
+      true_above c h' = counter_true r (T.parent a) c j (depth_next T L a r j e) (λ q u. y q (omega (arith, u, L.parent_above a k))) (λ q u. f q (omega (arith, u, L.parent_above a k))) h'
 
       judged : v.register.dirty (T.parent a) ≡ false → (c : ℕ) → (c ≡ counter_in l (T.parent a)) × Way (T.parent a) → (b : Bool) → node_valid T S v.memory (T.parent a) c ≡ b → cond b (ok ((v.memory (T.parent a)).words (T.index a))) (err (fault corrupt (T.parent a))) ≡ err x → BadWay a x
       judged u c z true t h = absurd (err≢ok (sym h))
       judged u c z false t h =
-          (T.parent a, sym (err_inj h), above itself j u, L.parent_Above a k, λ s. both_ways _ t (subst (λ n. node_valid T S v.memory (T.parent a) n ≡ true) (sym z.0) (stands_valid shapes T S l v.register D v.memory L (T.parent a) (L.parent_node a k) j s)), z.1)
+          (T.parent a, sym (err_inj h), above itself j u, L.parent_above a k, λ s. both_ways _ t (subst (λ n. node_valid T S v.memory (T.parent a) n ≡ true) (sym z.0) (stands_valid shapes T S l v.register D v.memory L (T.parent a) (L.parent_node a k) j s)), z.1)
 
       in_its_line : v.register.dirty (T.parent a) ≡ false → (z : Outcome ℕ) → counter_at T S v r (T.parent a) ≡ z → ((x' : Fault) → counter_at T S v r (T.parent a) ≡ err x' → BadWay (T.parent a) x') → in_line T S v.memory (T.parent a) (T.index a) z ≡ err x → BadWay a x
       in_its_line u (ok c) p ih h = judged u c (true_above c p) (node_valid T S v.memory (T.parent a) c) refl h
       in_its_line u (err b) p ih h =
           let (q, z, n, o, s, y) = ih x (p ∙ h) in
-          (q, z, rests_up j u n, omega (arith, o, L.parent_Above a k), s, y)
+          (q, z, rests_up j u n, omega (arith, o, L.parent_above a k), s, y)
 
       go : (o : Option Slot) → Exact T l v.register.dirty o (T.parent a) → held o (T.index a) (in_line T S v.memory (T.parent a) (T.index a) (counter_at T S v r (T.parent a))) ≡ err x → ((x' : Fault) → counter_at T S v r (T.parent a) ≡ err x' → BadWay (T.parent a) x') → BadWay a x
       go (some s) u h ih = absurd (err≢ok (sym h))

@@ -8,7 +8,7 @@ use text::{after, first, number, numbers};
 pub fn read_limit(text: &[u8]) -> Option<Option<u64>>
     ensures { Reads Limit text.now result }
 {
-    if text == b"none" {
+    if text == b"none".as_slice() {
         return Some(None);
     }
     Some(Some(number(text)?))

@@ -8,4 +8,4 @@ unfolding turned
 loop-i-init c = refl
 
 pub loop-i-preserved : goal.loop-i-preserved
-loop-i-preserved c = turned_more _ c.loop-i.-i _ _ _ c.loop-i.invariant c.encrypt-next.ensures
+loop-i-preserved c = turned_more _ c.loop-i._i _ _ _ c.loop-i.invariant c.encrypt-next.ensures

@@ -12,5 +12,5 @@ loop-i-init c = refl
 
 pub loop-i-preserved : goal.loop-i-preserved
 loop-i-preserved c =
-    turned_more (tagged c.args.cmac.now.aes.key) c.loop-i.-i _ _ _ c.loop-i.invariant
+    turned_more (tagged c.args.cmac.now.aes.key) c.loop-i._i _ _ _ c.loop-i.invariant
     (c.put_tag.ensures ∙ ap (λ (t : List ℕ). t ++ drop 16 c.loop-i.message) c.tag-tag.ensures)
