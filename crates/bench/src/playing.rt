@@ -1,7 +1,7 @@
 // A script on any board that can be tampered with and recharged.
 ghost use Rattle.std.specs.Prelude.{◌≡◌, ◌+◌, ◌^◌, ◌<◌, ◌++◌, None, string_bytes, OnOk};
 ghost use Rattle.text.specs.Spelling.{lines_of};
-ghost use Rattle.machine.specs.History.{format as formatting, bring_up as bringing-up};
+ghost use Rattle.machine.specs.History.{format as formatting, bring_up as bringing_up};
 ghost use Rattle.controller.specs.Worlds.{cold_in, world_in, report_by, Formats, Keeps};
 ghost use Rattle.controller.specs.BringUps.{BringsUp};
 ghost use Rattle.bench.specs.Rows.{bad};
@@ -91,7 +91,7 @@ fn bring_up<B: Board, S: Suite>(
     header: &Header,
 ) -> (Open<B, S>, Result<(), Fault>)
     ensures does { BringsUp (S.Suite.scheme suite) header.now.slots (B.Board.meaning cold.board) (report_by result.1 0) (B.Board.meaning result.0.board) (world_in (B.Board.meaning result.0.board) result.0.chip) }
-    ensures law { Keeps (S.Suite.scheme suite) (cold_in (B.Board.meaning cold.board)) (bringing-up header.now.slots (S.Suite.scheme suite).number) (report_by result.1 0) (world_in (B.Board.meaning result.0.board) result.0.chip) }
+    ensures law { Keeps (S.Suite.scheme suite) (cold_in (B.Board.meaning cold.board)) (bringing_up header.now.slots (S.Suite.scheme suite).number) (report_by result.1 0) (world_in (B.Board.meaning result.0.board) result.0.chip) }
     ensures suite { result.0.suite ≡ suite }
 {
     cold.bring_up(suite, header.slots)

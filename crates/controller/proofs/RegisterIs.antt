@@ -81,7 +81,7 @@ module _ (h : ℕ) (m : Meaning) (F : Fits h m) (S : Scheme) (t : Table) (a c : 
         levels = lev i;
         suite = (N.suite ∙ root_other 2 (inl (omega arith))) i;
         roots = (ap row N.roots ∙ roots_are n) i;
-        dirty_sum = (N.sum_is_lem ∙ f ∙ ap (sum_of (eight_ary h)) table) i;
+        dirty_sum = (N.sum_is ∙ f ∙ ap (sum_of (eight_ary h)) table) i;
         journal = journal i;
         dirty = (dirty ∙ ap {B = ℕ → Bool} (λ (u : Table) p. is_dirty (u p)) table) i;
       }

@@ -2,7 +2,7 @@ ghost use Rattle.std.specs.Prelude.{◌≡◌, true, Some as Just, ◌==◌};
 ghost use Rattle.machine.specs.Words.{register_in, state_in};
 ghost use Rattle.machine.specs.Layout.{eight_ary};
 ghost use Rattle.machine.specs.Encoding.{journal_meant};
-ghost use Rattle.machine.specs.History.{journal_in, bring_up_check, bring_up as bringing-up};
+ghost use Rattle.machine.specs.History.{journal_in, bring_up_check, bring_up as bringing_up};
 ghost use Rattle.controller.specs.Views.{Fits};
 ghost use Rattle.controller.specs.Runs.{ended};
 ghost use Rattle.controller.specs.Worlds.{world_in, cold_in, report_by, Keeps};
@@ -112,7 +112,7 @@ fn settled(opened: Result<Chip, Fault>) -> (Chip, Result<(), Fault>)
 impl<B: Board> Cold<B> {
     // Brings the board up with so many slots. A refused bring-up gives an open board that answers every call but shut-down with the fault.
     pub fn bring_up<S: Suite>(self, suite: S, slots: u64) -> (Open<B, S>, Result<(), Fault>)
-        ensures law { Keeps (S.Suite.scheme suite) (cold_in (B.Board.meaning self.board)) (bringing-up slots (S.Suite.scheme suite).number) (report_by result.1 0) (world_in (B.Board.meaning result.0.board) result.0.chip) }
+        ensures law { Keeps (S.Suite.scheme suite) (cold_in (B.Board.meaning self.board)) (bringing_up slots (S.Suite.scheme suite).number) (report_by result.1 0) (world_in (B.Board.meaning result.0.board) result.0.chip) }
         ensures others { KeepsOthers (S.Suite.scheme suite) slots (B.Board.meaning self.board) (report_by result.1 0) (world_in (B.Board.meaning result.0.board) result.0.chip) }
         ensures does { BringsUp (S.Suite.scheme suite) slots (B.Board.meaning self.board) (report_by result.1 0) (B.Board.meaning result.0.board) (world_in (B.Board.meaning result.0.board) result.0.chip) }
         ensures chip { ChipLeft (B.Board.meaning self.board) result.1 result.0.chip }

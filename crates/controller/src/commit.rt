@@ -54,8 +54,8 @@ fn raise_at<B: Board>(
     at: usize,
     counter: u64,
 ) -> Result<[u64; 32], LineFault>
-    requires fits { (Fits slots.old.layout.levels (B.Board.meaning board.now)) × ((at < (shape_in slots.old.layout).lines) × (counter ≤ counter_limit)) }
-    requires room_at { (RoomAt (shape_in slots.old.layout) at slots.old.used (table_in slots.old)) × (SmallAt (shape_in slots.old.layout) at (view_in (B.Board.meaning board.now) (table_in slots.old))) }
+    requires place { (Fits slots.old.layout.levels (B.Board.meaning board.now)) × ((at < (shape_in slots.old.layout).lines) × (counter ≤ counter_limit)) }
+    requires room { (RoomAt (shape_in slots.old.layout) at slots.old.used (table_in slots.old)) × (SmallAt (shape_in slots.old.layout) at (view_in (B.Board.meaning board.now) (table_in slots.old))) }
     ensures table { table_in slots.new ≡ raised_slots (shape_in slots.old.layout) (memory_in (B.Board.meaning board.now).lines) (table_in slots.old) at counter }
     ensures words { RegisterRaised (shape_in slots.old.layout) at counter (B.Board.meaning board.now).register result }
     ensures layout { slots.new.layout ≡ slots.old.layout }
@@ -82,9 +82,9 @@ pub(crate) fn commit_under<B: Board, S: Suite>(
     counter: u64,
     commits: &mut u64,
 ) -> Result<(), TreeFault>
-    requires fits_2 { (Fits slots.old.layout.levels (B.Board.meaning board.old)) × ((at < (shape_in slots.old.layout).lines) × (counter ≤ counter_limit)) }
-    requires room_at { (RoomAt (shape_in slots.old.layout) at slots.old.used (table_in slots.old)) × (SmallAt (shape_in slots.old.layout) at (view_in (B.Board.meaning board.old) (table_in slots.old))) }
-    requires commits_bound { commits.old < 18446744073709551615 }
+    requires place { (Fits slots.old.layout.levels (B.Board.meaning board.old)) × ((at < (shape_in slots.old.layout).lines) × (counter ≤ counter_limit)) }
+    requires room { (RoomAt (shape_in slots.old.layout) at slots.old.used (table_in slots.old)) × (SmallAt (shape_in slots.old.layout) at (view_in (B.Board.meaning board.old) (table_in slots.old))) }
+    requires countable { commits.old < 18446744073709551615 }
     ensures tally { commits.new ≤ commits.old + 1 }
     ensures went { Went (commit_under (shape_in slots.old.layout) (S.Suite.scheme suite.now) (memory_in (B.Board.meaning board.old).lines) (register_in (B.Board.meaning board.old).register) (table_in slots.old) at (row words.now) counter) (B.Board.meaning board.old) (ended result) (B.Board.meaning board.new) (table_in slots.new) commits.old commits.new }
     ensures fits { Fits slots.old.layout.levels (B.Board.meaning board.new) }
@@ -108,8 +108,8 @@ pub(crate) fn commit<B: Board, S: Suite>(
     words: &[u64; 8],
     commits: &mut u64,
 ) -> Result<(), TreeFault>
-    requires fits_2 { (Fits slots.old.layout.levels (B.Board.meaning board.old)) × (at < (shape_in slots.old.layout).lines) }
-    requires room_at { (RoomAt (shape_in slots.old.layout) at slots.old.used (table_in slots.old)) × (commits.old < 18446744073709551615) }
+    requires place { (Fits slots.old.layout.levels (B.Board.meaning board.old)) × (at < (shape_in slots.old.layout).lines) }
+    requires room { (RoomAt (shape_in slots.old.layout) at slots.old.used (table_in slots.old)) × (commits.old < 18446744073709551615) }
     ensures went { Went (committing (shape_in slots.old.layout) (S.Suite.scheme suite.now) (view_in (B.Board.meaning board.old) (table_in slots.old)) (table_in slots.old) at (row words.now)) (B.Board.meaning board.old) (ended result) (B.Board.meaning board.new) (table_in slots.new) commits.old commits.new }
     ensures fits { Fits slots.old.layout.levels (B.Board.meaning board.new) }
     ensures layout { slots.new.layout ≡ slots.old.layout }

@@ -22,9 +22,9 @@ fn evict_now<B: Board, S: Suite>(
     at: usize,
     commits: &mut u64,
 ) -> Result<(), TreeFault>
-    requires fits_2 { (Fits slots.old.layout.levels (B.Board.meaning board.old)) × ((at < (shape_in slots.old.layout).lines) × (is_dirty (table_in slots.old at) ≡ true)) }
-    requires at_value { (shape_in slots.old.layout).parent at < (shape_in slots.old.layout).lines → overdue (table_in slots.old ((shape_in slots.old.layout).parent at)) ≡ false }
-    requires commits_bound { commits.old < 18446744073709551615 }
+    requires node { (Fits slots.old.layout.levels (B.Board.meaning board.old)) × ((at < (shape_in slots.old.layout).lines) × (is_dirty (table_in slots.old at) ≡ true)) }
+    requires parent { (shape_in slots.old.layout).parent at < (shape_in slots.old.layout).lines → overdue (table_in slots.old ((shape_in slots.old.layout).parent at)) ≡ false }
+    requires countable { commits.old < 18446744073709551615 }
     ensures tally { commits.new ≤ commits.old + 1 }
     ensures went { Went (evict_now (shape_in slots.old.layout) (S.Suite.scheme suite.now) (view_in (B.Board.meaning board.old) (table_in slots.old)) at) (B.Board.meaning board.old) (ended result) (B.Board.meaning board.new) (table_in slots.new) commits.old commits.new }
     ensures fits { Fits slots.old.layout.levels (B.Board.meaning board.new) }
@@ -49,8 +49,8 @@ pub(crate) fn evict<B: Board, S: Suite>(
     at: usize,
     commits: &mut u64,
 ) -> Result<(), TreeFault>
-    requires fits_2 { (Fits slots.old.layout.levels (B.Board.meaning board.old)) × ((at < (shape_in slots.old.layout).lines) × (is_dirty (table_in slots.old at) ≡ true)) }
-    requires at_bound { commits.old + ((shape_in slots.old.layout).lines - at) ≤ 18446744073709551615 }
+    requires node { (Fits slots.old.layout.levels (B.Board.meaning board.old)) × ((at < (shape_in slots.old.layout).lines) × (is_dirty (table_in slots.old at) ≡ true)) }
+    requires countable { commits.old + ((shape_in slots.old.layout).lines - at) ≤ 18446744073709551615 }
     ensures tally { commits.new ≤ commits.old + ((shape_in slots.old.layout).lines - at) }
     ensures went { Went (evicting (shape_in slots.old.layout) (S.Suite.scheme suite.now) (view_in (B.Board.meaning board.old) (table_in slots.old)) at) (B.Board.meaning board.old) (ended result) (B.Board.meaning board.new) (table_in slots.new) commits.old commits.new }
     ensures fits { Fits slots.old.layout.levels (B.Board.meaning board.new) }

@@ -1,5 +1,5 @@
 ghost use Rattle.std.specs.Prelude.{◌≡◌};
-ghost use Rattle.machine.specs.Faults.{number, layer as layer-of};
+ghost use Rattle.machine.specs.Faults.{number, layer as layer_of};
 ghost use Rattle.controller.specs.Views.{fault_of, with_line, LineAt, controller_says};
 ghost use Rattle.controller.specs.declared.types.TreeFault.TheVariants.{Board as OfBoard};
 ghost use Rattle.controller.specs.declared.types.Fault.TheVariants.{Tree as OfTree};
@@ -47,7 +47,7 @@ impl LineFault {
 
     // The layer: a missing line is the controller's to report.
     fn layer(&self) -> u64
-        ensures { result ≡ layer-of (fault_of (OfTree (OfBoard self.now))).cause }
+        ensures { result ≡ layer_of (fault_of (OfTree (OfBoard self.now))).cause }
     {
         match self.fault {
             BoardFault::Absent => 3,
@@ -83,7 +83,7 @@ impl TreeFault {
 
     // The layer that met the cause.
     fn layer(&self) -> u64
-        ensures { result ≡ layer-of (fault_of (OfTree self.now)).cause }
+        ensures { result ≡ layer_of (fault_of (OfTree self.now)).cause }
     {
         match self {
             TreeFault::Board(f) => f.layer(),
@@ -125,7 +125,7 @@ impl Fault {
 
     // The layer that met the cause: 1 the board, 2 the tree, 3 the controller.
     pub fn layer(&self) -> u64
-        ensures { result ≡ layer-of (fault_of self.now).cause }
+        ensures { result ≡ layer_of (fault_of self.now).cause }
     {
         match self {
             Fault::Tree(f) => f.layer(),

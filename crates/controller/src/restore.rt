@@ -1,6 +1,6 @@
 ghost use Rattle.std.specs.Prelude.{◌≡◌, ◌-◌, ◌<◌, ◌≤◌, ◌==◌};
 ghost use Rattle.machine.specs.Words.{row, line_in, memory_in, register_in};
-ghost use Rattle.machine.specs.Plans.{map_count, sum_of, restore_node, restore as restore-plan, recover as recover-plan};
+ghost use Rattle.machine.specs.Plans.{map_count, sum_of, restore_node, restore as restore_plan, recover as recover_plan};
 ghost use Rattle.tree.specs.Layouts.{shape_in};
 ghost use Rattle.tree.specs.SlotTable.{table_in, no_slots, map_in};
 ghost use Rattle.controller.specs.Views.{view_in, Fits};
@@ -65,8 +65,8 @@ fn slot_from<B: Board, S: Suite>(
     at: usize,
     stored: &[u64; 8],
 ) -> Result<Slot, TreeFault>
-    requires fits { (Fits layout.levels (B.Board.meaning board.now)) × (((shape_in layout).data_lines ≤ at) × (at < (shape_in layout).lines)) }
-    requires stored_value { row stored.now ≡ (memory_in (B.Board.meaning board.now).lines at).words }
+    requires place { (Fits layout.levels (B.Board.meaning board.now)) × (((shape_in layout).data_lines ≤ at) × (at < (shape_in layout).lines)) }
+    requires own_counters { row stored.now ≡ (memory_in (B.Board.meaning board.now).lines at).words }
     ensures value { slot_outcome result ≡ from_children (shape_in layout) (S.Suite.scheme suite.now) (memory_in (B.Board.meaning board.now).lines) at }
     ensures slot { SlotOf at result }
 {
@@ -113,9 +113,9 @@ fn restore<B: Board, S: Suite>(
     layout: Layout,
     map: &[u64; 10],
 ) -> Result<(), TreeFault>
-    requires fits { (Fits layout.levels (B.Board.meaning board.now)) × ((slots.old.layout ≡ layout) × ((table_in slots.old ≡ no_slots) × (slots.old.used ≡ 0))) }
-    requires board_value { ((register_in (B.Board.meaning board.now).register).dirty ≡ map_in layout.levels map.now) × (map_below (shape_in layout).lines (register_in (B.Board.meaning board.now).register) ≤ 64) }
-    ensures value { Restores (restore-plan (shape_in layout) (S.Suite.scheme suite.now) (shape_in layout).lines (view_in (B.Board.meaning board.now) no_slots)) (B.Board.meaning board.now) result (table_in slots.new) }
+    requires start { (Fits layout.levels (B.Board.meaning board.now)) × ((slots.old.layout ≡ layout) × ((table_in slots.old ≡ no_slots) × (slots.old.used ≡ 0))) }
+    requires dirty_nodes { ((register_in (B.Board.meaning board.now).register).dirty ≡ map_in layout.levels map.now) × (map_below (shape_in layout).lines (register_in (B.Board.meaning board.now).register) ≤ 64) }
+    ensures value { Restores (restore_plan (shape_in layout) (S.Suite.scheme suite.now) (shape_in layout).lines (view_in (B.Board.meaning board.now) no_slots)) (B.Board.meaning board.now) result (table_in slots.new) }
     ensures layout { slots.new.layout ≡ layout }
 {
     let base = layout.data_lines();
@@ -142,7 +142,7 @@ pub(crate) fn recover<B: Board, S: Suite>(
     layout: Layout,
 ) -> Result<Slots, TreeFault>
     requires { (Fits layout.levels (B.Board.meaning board.now)) × (map_count (shape_in layout) (register_in (B.Board.meaning board.now).register) ≤ 64) }
-    ensures { Recovers (recover-plan (shape_in layout) (S.Suite.scheme suite.now) (memory_in (B.Board.meaning board.now).lines) (register_in (B.Board.meaning board.now).register)) layout result }
+    ensures { Recovers (recover_plan (shape_in layout) (S.Suite.scheme suite.now) (memory_in (B.Board.meaning board.now).lines) (register_in (B.Board.meaning board.now).register)) layout result }
 {
     let register = Register::decode(&board.read_register());
     let mut slots = Slots::new(layout);

@@ -53,8 +53,8 @@ fn make_room<B: Board, S: Suite>(
     at: usize,
     commits: &mut u64,
 ) -> Result<(), TreeFault>
-    requires fits_2 { (Fits slots.old.layout.levels (B.Board.meaning board.old)) × (at < (shape_in slots.old.layout).data_lines) }
-    requires le_capacity { (1 ≤ capacity) × ((capacity ≤ 64) × (commits.old ≤ 1000)) }
+    requires place { (Fits slots.old.layout.levels (B.Board.meaning board.old)) × (at < (shape_in slots.old.layout).data_lines) }
+    requires bounds { (1 ≤ capacity) × ((capacity ≤ 64) × (commits.old ≤ 1000)) }
     ensures went { Went (before_commit (shape_in slots.old.layout) (S.Suite.scheme suite.now) capacity (view_in (B.Board.meaning board.old) (table_in slots.old)) at) (B.Board.meaning board.old) (ended result) (B.Board.meaning board.new) (table_in slots.new) commits.old commits.new }
     ensures fits { Fits slots.old.layout.levels (B.Board.meaning board.new) }
     ensures layout { slots.new.layout ≡ slots.old.layout }
@@ -83,8 +83,8 @@ pub(crate) fn write<B: Board, S: Suite>(
     words: &[u64; 8],
     commits: &mut u64,
 ) -> Result<(), TreeFault>
-    requires fits { (Fits slots.old.layout.levels (B.Board.meaning board.old)) × (at < (shape_in slots.old.layout).data_lines) }
-    requires le_capacity { (1 ≤ capacity) × ((capacity ≤ 64) × (commits.old ≤ 1000)) }
+    requires place { (Fits slots.old.layout.levels (B.Board.meaning board.old)) × (at < (shape_in slots.old.layout).data_lines) }
+    requires bounds { (1 ≤ capacity) × ((capacity ≤ 64) × (commits.old ≤ 1000)) }
     ensures { Went (write_call (shape_in slots.old.layout) (S.Suite.scheme suite.now) capacity (view_in (B.Board.meaning board.old) (table_in slots.old)) at (row words.now)) (B.Board.meaning board.old) (ended result) (B.Board.meaning board.new) (table_in slots.new) commits.old commits.new }
 {
     make_room(board, suite, slots, capacity, at, commits)?;

@@ -1,7 +1,7 @@
 ghost use Rattle.std.specs.Prelude.{◌≡◌, ◌+◌, ◌≤◌, take, drop};
 ghost use Rattle.sip.specs.Sip.{le};
 ghost use Rattle.suite.specs.Words.{row};
-ghost use Rattle.suite.specs.Message.{message as sealed-message, pad_block, word_bytes};
+ghost use Rattle.suite.specs.Message.{message as sealed_message, pad_block, word_bytes};
 
 // Ten words as bytes, each as eight, lowest first.
 fn bytes_of(words: &[u64; 10]) -> [u8; 80]
@@ -16,7 +16,7 @@ fn bytes_of(words: &[u64; 10]) -> [u8; 80]
 
 // The message that a mac covers: the address, the eight words, the counter.
 pub(crate) fn message(at: u64, words: &[u64; 8], counter: u64) -> [u8; 80]
-    ensures { result ≡ sealed-message at (row words.now) counter }
+    ensures { result ≡ sealed_message at (row words.now) counter }
 {
     let [w0, w1, w2, w3, w4, w5, w6, w7] = *words;
     bytes_of(&[at, w0, w1, w2, w3, w4, w5, w6, w7, counter])

@@ -12,8 +12,8 @@ use crate::types::{Slot, Slots};
 impl Slots {
     // A slot more, for a node that has none.
     fn append(&mut self, slot: Slot)
-        requires used_bound { (self.old.used < 64) × (table_in self.old slot.address ≡ none) }
-        requires levels_bound { (8 ^ self.old.layout.levels ≤ slot.address) × ((slot.address < lines_of self.old.layout.levels) × (((k : ℕ) → k < 8 → slice_index slot.counters k ≤ counter_limit))) }
+        requires room { (self.old.used < 64) × (table_in self.old slot.address ≡ none) }
+        requires fits { (8 ^ self.old.layout.levels ≤ slot.address) × ((slot.address < lines_of self.old.layout.levels) × (((k : ℕ) → k < 8 → slice_index slot.counters k ≤ counter_limit))) }
         ensures table { table_in self.new ≡ update (table_in self.old) slot.address (some (slot_in slot)) }
         ensures more { self.new.used ≡ self.old.used + 1 }
         ensures layout { self.new.layout ≡ self.old.layout }

@@ -1,7 +1,7 @@
 ghost use Rattle.std.specs.Prelude.{◌≡◌, ℕ, ◌*◌, ◌<◌, ◌≤◌, nat_le, slice_index};
 ghost use Rattle.suite.specs.Words.{row};
 ghost use Rattle.machine.specs.Layout.{counter_limit, sum_to};
-ghost use Rattle.machine.specs.Plans.{is_dirty, overdue as overdue-in, dirty_count, sum_of};
+ghost use Rattle.machine.specs.Plans.{is_dirty, overdue as overdue_in, dirty_count, sum_of};
 ghost use Rattle.tree.specs.Layouts.{shape_in};
 ghost use Rattle.tree.specs.SlotTable.{table_in, no_slots, map_in, Finds, Counter, LowestIs};
 
@@ -88,7 +88,7 @@ impl Slots {
 
     // Whether a node is dirty with 1,023 pending increments or more.
     pub fn overdue(&self, at: usize) -> bool
-        ensures { result ≡ overdue-in (table_in self.now at) }
+        ensures { result ≡ overdue_in (table_in self.now at) }
     {
         match self.find(at) {
             Some(i) => self.table[i].pending >= 1023,

@@ -22,25 +22,25 @@ write_back-requires g c =
 pub returns-in_err-write_back : goal.returns-in_err-write_back
 returns-in_err-write_back g c =
     let x = err_from_is_err_and c.from_residual-in_err-write_back.result c.from_residual-in_err-write_back.ensures.1 in
-    rw (x.1, x.2) (brings_lost (g.S.Suite.scheme c.args.suite.now) c.args.slots (g.B.Board.meaning c.args.board.now) c.in_ok-layout.ensures.0 (g.B.Board.meaning c.write-back.new.board) (tree_fault c.in_err-write_back.field-0.0) c.in_err-write_back.ensures)
+    rw (x.1, x.2) (brings_lost (g.S.Suite.scheme c.args.suite.now) c.args.slots (g.B.Board.meaning c.args.board.now) c.in_ok-layout.ensures.0 (g.B.Board.meaning c.write_back.new.board) (tree_fault c.in_err-write_back.field-0.0) c.in_err-write_back.ensures)
 
 pub recover-requires : goal.recover-requires
 recover-requires g c =
     let P = c.in_ok-layout.ensures.1 in
     let W = c.in_ok-write_back.ensures in
-    (fits_after c.in_ok-layout.layout.levels c.args.slots (g.B.Board.meaning c.args.board.now) (g.B.Board.meaning c.write-back.new.board) _ P W, few_after c.in_ok-layout.layout.levels c.args.slots (g.B.Board.meaning c.args.board.now) (g.B.Board.meaning c.write-back.new.board) _ P W)
+    (fits_after c.in_ok-layout.layout.levels c.args.slots (g.B.Board.meaning c.args.board.now) (g.B.Board.meaning c.write_back.new.board) _ P W, few_after c.in_ok-layout.layout.levels c.args.slots (g.B.Board.meaning c.args.board.now) (g.B.Board.meaning c.write_back.new.board) _ P W)
 
 pub returns-in_err-found : goal.returns-in_err-found
 returns-in_err-found g c =
     let x = err_from_is_err_and c.from_residual-in_err-found.result c.from_residual-in_err-found.ensures.1 in
     let P = c.in_ok-layout.ensures in
-    rw (x.1, x.2) (brings_ends (g.S.Suite.scheme c.args.suite.now) c.args.slots (g.B.Board.meaning c.args.board.now) P.0 (g.B.Board.meaning c.write-back.new.board) c.in_ok-write_back.ensures c.in_ok-layout.layout.levels P.1.fits.own (err (tree_fault c.in_err-found.field-0.0)) c.in_err-found.ensures)
+    rw (x.1, x.2) (brings_ends (g.S.Suite.scheme c.args.suite.now) c.args.slots (g.B.Board.meaning c.args.board.now) P.0 (g.B.Board.meaning c.write_back.new.board) c.in_ok-write_back.ensures c.in_ok-layout.layout.levels P.1.fits.own (err (tree_fault c.in_err-found.field-0.0)) c.in_err-found.ensures)
 
 pub returns : goal.returns
 returns g c =
     let P = c.in_ok-layout.ensures in
     let r = c.in_ok-found.ensures in (
-      brings_ends (g.S.Suite.scheme c.args.suite.now) c.args.slots (g.B.Board.meaning c.args.board.now) P.0 (g.B.Board.meaning c.write-back.new.board) c.in_ok-write_back.ensures c.in_ok-layout.layout.levels P.1.fits.own (ok (table_in c.in_ok-found.found)) r.0,
+      brings_ends (g.S.Suite.scheme c.args.suite.now) c.args.slots (g.B.Board.meaning c.args.board.now) P.0 (g.B.Board.meaning c.write_back.new.board) c.in_ok-write_back.ensures c.in_ok-layout.layout.levels P.1.fits.own (ok (table_in c.in_ok-found.found)) r.0,
       refl,
       ap (λ (l : Layout). l.levels) r.1 ∙ P.1.fits.own,
     )

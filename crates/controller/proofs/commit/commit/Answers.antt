@@ -25,7 +25,7 @@ returns-in_err-counter g c =
     let e = c.in_err-counter.ensures ∙ ap (λ (y : Layout). counter_of (shape_in y) K (view_in M T) c.args.at) c.layout.ensures in
     record {
       went = rw (p.1, p.2) (subst (λ (r : Run). Went r M (some x) M T c.args.commits.now c.args.commits.now) (sym (commit_err h K M T c.args.at (row c.args.words.now) x e)) (went_none M T x c.args.commits.now (counter_corrupt h K _ c.args.at x e)));
-      fits = c.requires.0.0;
+      fits = c.requires.place.0;
       layout = refl;
     }
 
@@ -38,7 +38,7 @@ returns-then-counter-ge-LIMIT g c =
     let e = c.in_ok-counter.ensures ∙ ap (λ (y : Layout). counter_of (shape_in y) K (view_in M T) c.args.at) c.layout.ensures in
     record {
       went = subst (λ (r : Run). Went r M (some (fault at_limit c.args.at)) M T c.args.commits.now c.args.commits.now) (sym (commit_old s.layout.levels K M T c.args.at (row c.args.words.now) c.in_ok-counter.counter e (search rules))) (went_none M T (fault at_limit c.args.at) c.args.commits.now (λ e. omega (arith, ap number e)));
-      fits = c.requires.0.0;
+      fits = c.requires.place.0;
       layout = refl;
     }
 
@@ -49,7 +49,11 @@ commit_under-requires g c =
     let K = g.S.Suite.scheme c.args.suite.now in
     let T = table_in s in
     let e = c.in_ok-counter.ensures ∙ ap (λ (y : Layout). counter_of (shape_in y) K (view_in M T) c.args.at) c.layout.ensures in
-    ((c.requires.0.0, (c.requires.0.1, search rules)), (c.requires.1.0, small_here s.layout.levels K M T c.args.at c.requires.0.0 c.requires.0.1 c.in_ok-counter.counter e), c.requires.1.1)
+    record {
+      place = (c.requires.place.0, (c.requires.place.1, search rules));
+      room = (c.requires.room.0, small_here s.layout.levels K M T c.args.at c.requires.place.0 c.requires.place.1 c.in_ok-counter.counter e);
+      countable = c.requires.room.1;
+    }
 
 pub returns : goal.returns
 returns g c =

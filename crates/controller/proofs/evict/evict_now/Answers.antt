@@ -28,7 +28,7 @@ returns-in_err-counter g c =
     record {
       tally = omega arith;
       went = rw (p.1, p.2) (subst (λ (r : Run). Went r M (some x) M T c.args.commits.now c.args.commits.now) (sym (now_refused h K M T c.args.at x e)) (went_none M T x c.args.commits.now (counter_corrupt h K (view_in M T) c.args.at x e)));
-      fits = c.requires.0.0;
+      fits = c.requires.node.0;
       layout = refl;
       out = rw (p.1, p.2) (λ e. absurd (none≢some (sym e)));
     }
@@ -43,13 +43,13 @@ returns-then-counter-ge-LIMIT g c =
     record {
       tally = omega arith;
       went = subst (λ (r : Run). Went r M (some (fault at_limit c.args.at)) M T c.args.commits.now c.args.commits.now) (sym (now_at_limit s.layout.levels K M T c.args.at c.in_ok-counter.counter e (search rules))) (went_none M T (fault at_limit c.args.at) c.args.commits.now (λ e. omega (arith, ap number e)));
-      fits = c.requires.0.0;
+      fits = c.requires.node.0;
       layout = refl;
       out = λ e. absurd (none≢some (sym e));
     }
 
 pub returns-in_default : goal.returns-in_default
-returns-in_default g c = absurd (both_ways false refl (ap is_dirty (sym c.in_default.ensures.0) ∙ c.requires.0.1.1))
+returns-in_default g c = absurd (both_ways false refl (ap is_dirty (sym c.in_default.ensures.0) ∙ c.requires.node.1.1))
 
 pub commit_under-requires : goal.commit_under-requires
 commit_under-requires g c =
@@ -62,14 +62,14 @@ commit_under-requires g c =
     let a = c.args.at in
     let d = c.in-Some.ensures in
     let e = c.in_ok-counter.ensures ∙ ap (λ (y : Layout). counter_of (shape_in y) K (view_in M T) c.args.at) c.layout.ensures in
-    let back = sym d.4 in (
-      (subst (λ (y : Layout). Fits y.levels M) back c.requires.0.0, (subst (λ (y : Layout). a < (shape_in y).lines) back c.requires.0.1.0, search rules)),
-      (
-        subst (λ (y : Layout). RoomAt (shape_in y) a s₁.used (table_in s₁)) back (room_after h K M T a c.requires.0.0 c.requires.0.1.0 (table_in s₁) s₁.used d.2 c.requires.1 (omega (arith, d.3, s.few))),
-        subst (λ (y : Layout). SmallAt (shape_in y) a (view_in M (table_in s₁))) back (small_after h K M T a c.requires.0.0 c.requires.0.1.0 c.in_ok-counter.counter e (table_in s₁) d.2),
-      ),
-      c.requires.2,
-    )
+    let back = sym d.4 in record {
+      place = (subst (λ (y : Layout). Fits y.levels M) back c.requires.node.0, (subst (λ (y : Layout). a < (shape_in y).lines) back c.requires.node.1.0, search rules));
+      room = (
+        subst (λ (y : Layout). RoomAt (shape_in y) a s₁.used (table_in s₁)) back (room_after h K M T a c.requires.node.0 c.requires.node.1.0 (table_in s₁) s₁.used d.2 c.requires.parent (omega (arith, d.3, s.few))),
+        subst (λ (y : Layout). SmallAt (shape_in y) a (view_in M (table_in s₁))) back (small_after h K M T a c.requires.node.0 c.requires.node.1.0 c.in_ok-counter.counter e (table_in s₁) d.2),
+      );
+      countable = c.requires.countable;
+    }
 
 pub returns : goal.returns
 returns g c =
@@ -92,5 +92,5 @@ returns g c =
       went = subst (λ (r : Run). Went r M (ended c.commit_under.result) M₂ T₂ c.args.commits.now c.commit_under.new.commits) (now_committed h K M T a c.in_ok-counter.counter e (search rules) (table_in s₁) d.2 f d.1) went;
       fits = subst (λ (y : Layout). Fits y.levels M₂) d.4 c.commit_under.ensures.fits;
       layout = c.commit_under.ensures.layout ∙ d.4;
-      out = left_after h K M T a c.requires.0.0 c.requires.0.1.0 (table_in s₁) d.2 f n (ended c.commit_under.result) M₂ T₂ c.args.commits.now c.commit_under.new.commits went;
+      out = left_after h K M T a c.requires.node.0 c.requires.node.1.0 (table_in s₁) d.2 f n (ended c.commit_under.result) M₂ T₂ c.args.commits.now c.commit_under.new.commits went;
     }

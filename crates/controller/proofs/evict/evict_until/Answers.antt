@@ -49,7 +49,10 @@ evict-requires g c =
     let M = g.B.Board.meaning c.loop-i.board in
     let L = c.in-Some.ensures in
     let n : c.lines-turns.result ≡ lines_of c.args.slots.now.layout.levels = c.lines-turns.ensures.value ∙ ap (λ (y : Layout). (shape_in y).lines) c.layout.ensures in
-    ((subst (λ (y : Layout). Fits y.levels M) (sym c.loop-i.invariant.1) c.loop-i.invariant.0, (L.range, L.dirty)), omega (arith, c.loop-i.invariant.3, c.requires.1, c.loop-i-test.true, c.lines-turns.ensures.small, n, ap (λ (y : Layout). (shape_in y).lines) c.loop-i.invariant.1))
+    record {
+      node = (subst (λ (y : Layout). Fits y.levels M) (sym c.loop-i.invariant.1) c.loop-i.invariant.0, (L.range, L.dirty));
+      countable = omega (arith, c.loop-i.invariant.3, c.requires.1, c.loop-i-test.true, c.lines-turns.ensures.small, n, ap (λ (y : Layout). (shape_in y).lines) c.loop-i.invariant.1);
+    }
 
 pub returns-in_err-evict : goal.returns-in_err-evict
 returns-in_err-evict g c =

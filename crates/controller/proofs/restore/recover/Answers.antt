@@ -14,10 +14,10 @@ unfolding map_count
 restore-requires g c =
     let M = g.B.Board.meaning c.args.board.now in
     let q = c.decode-register.ensures.meaning ∙ ap register_in c.read_register.ensures in
-    let f = c.decode-register.result in (
-      (c.requires.0, (c.new-slots.ensures.layout, (c.new-slots.ensures.table, c.new-slots.ensures.empty))),
-      (fields_map f M.register q c.args.layout.levels (c.requires.0.own ∙ sym (levels_in M.register) ∙ sym (fields_levels f M.register q)), c.requires.1),
-    )
+    let f = c.decode-register.result in record {
+      start = (c.requires.0, (c.new-slots.ensures.layout, (c.new-slots.ensures.table, c.new-slots.ensures.empty)));
+      dirty_nodes = (fields_map f M.register q c.args.layout.levels (c.requires.0.own ∙ sym (levels_in M.register) ∙ sym (fields_levels f M.register q)), c.requires.1);
+    }
 
 pub returns-in_err-restore : goal.returns-in_err-restore
 returns-in_err-restore g c =

@@ -14,20 +14,20 @@ use Rattle.controller.specs.Restores.{map_below}
 use Rattle.controller.proofs.RestoreSteps.{step_ok, step_err, step_count, step_empty, step_end, pushed}
 use Rattle.controller.proofs.restore.restore.Goals as goal
 
-pub overflow-sub-below : goal.overflow-sub-below
-overflow-sub-below g c = omega (arith, c.data_lines-base.ensures.value, c.lines.ensures.value, (eight_trees c.args.layout.levels c.args.layout.low c.args.layout.high).data_in)
+pub overflow_sub-below : goal.overflow_sub-below
+overflow_sub-below g c = omega (arith, c.data_lines-base.ensures.value, c.lines.ensures.value, (eight_trees c.args.layout.levels c.args.layout.low c.args.layout.high).data_in)
 
 pub loop-j-init : goal.loop-j-init
 loop-j-init g c =
     let M = g.B.Board.meaning c.args.board.now in
     let K = g.S.Suite.scheme c.args.suite.now in
     let h = c.args.layout.levels in
-    let t = c.requires.0.1.1.0 in
+    let t = c.requires.start.1.1.0 in
     let e : 8 ^ h + (c.lines.result - c.data_lines-base.result) ≡ lines_of h = omega (arith, c.data_lines-base.ensures.value, c.lines.ensures.value, (eight_trees h c.args.layout.low c.args.layout.high).data_in) in (
       omega (arith, e),
-      c.requires.0.1.0,
+      c.requires.start.1.0,
       (λ p k. ap (λ (u : Table). u p) t),
-      subst (λ n. c.args.slots.now.used + map_below n (register_in M.register) ≤ 64) (sym e) (omega (arith, c.requires.0.1.1.1, c.requires.1.1)),
+      subst (λ n. c.args.slots.now.used + map_below n (register_in M.register) ≤ 64) (sym e) (omega (arith, c.requires.start.1.1.1, c.requires.dirty_nodes.1)),
       ap (λ n. restore (eight_ary h) K n (view_in M (table_in c.args.slots.now))) e ∙ ap (λ (u : Table). restore (eight_ary h) K (lines_of h) (view_in M u)) t,
     )
 
@@ -39,7 +39,7 @@ returns-in_err-slot g c =
     let h = c.args.layout.levels in
     let at : c.data_lines-base.result + c.in-Some.j ≡ 8 ^ h + c.in-Some.j = ap (λ b. b + c.in-Some.j) c.data_lines-base.ensures.value in
     rw (x.1, x.2) (record {
-      value = sym c.loop-j.invariant.4 ∙ step_err h M K c.args.map.now c.requires.1.0 c.loop-j.below (table_in c.loop-j.slots) c.in-Some.j c.in-Some.ensures (tree_fault c.in_err-slot.field-0.0) (c.in_err-slot.ensures.value ∙ ap (restore_node (eight_ary h) K (view_in M (table_in c.loop-j.slots))) at);
+      value = sym c.loop-j.invariant.4 ∙ step_err h M K c.args.map.now c.requires.dirty_nodes.0 c.loop-j.below (table_in c.loop-j.slots) c.in-Some.j c.in-Some.ensures (tree_fault c.in_err-slot.field-0.0) (c.in_err-slot.ensures.value ∙ ap (restore_node (eight_ary h) K (view_in M (table_in c.loop-j.slots))) at);
       layout = c.loop-j.invariant.1;
     })
 
@@ -54,7 +54,7 @@ loop-j-preserved g c =
     let n = c.in-Some.ensures in
     let I = c.loop-j.invariant in
     let here = d.slot.0 ∙ at in
-    let count = step_count h M K c.args.map.now c.requires.1.0 c.loop-j.below (table_in c.loop-j.slots) c.in-Some.j c.in-Some.ensures in
+    let count = step_count h M K c.args.map.now c.requires.dirty_nodes.0 c.loop-j.below (table_in c.loop-j.slots) c.in-Some.j c.in-Some.ensures in
     let fit : FitToPush c.loop-j.slots s = record {
       room = omega (arith, I.3, count);
       node = subst (λ (l : Layout). (shape_in l).data_lines ≤ s.address) (sym I.1) (omega (arith, here));
@@ -66,9 +66,9 @@ loop-j-preserved g c =
     let grown : table_in c.push.new.self ≡ update (table_in c.loop-j.slots) (8 ^ h + c.in-Some.j) (some (slot_in s)) = P.0 ∙ ap (λ a. update (table_in c.loop-j.slots) a (some (slot_in s))) here in (
       omega (arith, n.0, I.0),
       P.2 ∙ I.1,
-      step_empty h M K c.args.map.now c.requires.1.0 c.loop-j.below (table_in c.loop-j.slots) c.in-Some.j c.in-Some.ensures (table_in c.push.new.self) (slot_in s) grown I.2,
+      step_empty h M K c.args.map.now c.requires.dirty_nodes.0 c.loop-j.below (table_in c.loop-j.slots) c.in-Some.j c.in-Some.ensures (table_in c.push.new.self) (slot_in s) grown I.2,
       omega (arith, I.3, P.1, count),
-      sym (step_ok h M K c.args.map.now c.requires.1.0 c.loop-j.below (table_in c.loop-j.slots) c.in-Some.j c.in-Some.ensures (slot_in s) (table_in c.push.new.self) (d.value ∙ ap (restore_node (eight_ary h) K (view_in M (table_in c.loop-j.slots))) at) grown) ∙ I.4,
+      sym (step_ok h M K c.args.map.now c.requires.dirty_nodes.0 c.loop-j.below (table_in c.loop-j.slots) c.in-Some.j c.in-Some.ensures (slot_in s) (table_in c.push.new.self) (d.value ∙ ap (restore_node (eight_ary h) K (view_in M (table_in c.loop-j.slots))) at) grown) ∙ I.4,
     )
 
 pub returns : goal.returns
@@ -77,6 +77,6 @@ returns g c =
     let K = g.S.Suite.scheme c.args.suite.now in
     let h = c.args.layout.levels in
     record {
-      value = sym c.loop-j.invariant.4 ∙ step_end h M K c.args.map.now c.requires.1.0 c.loop-j.below (table_in c.loop-j.slots) c.in_default.ensures;
+      value = sym c.loop-j.invariant.4 ∙ step_end h M K c.args.map.now c.requires.dirty_nodes.0 c.loop-j.below (table_in c.loop-j.slots) c.in_default.ensures;
       layout = c.loop-j.invariant.1;
     }

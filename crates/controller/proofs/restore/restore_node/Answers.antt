@@ -15,7 +15,7 @@ pub returns-then-not-node_valid : goal.returns-then-not-node_valid
 returns-then-not-node_valid g c = record { value = node_corrupt c.args.layout.levels (g.B.Board.meaning c.args.board.now) (g.S.Suite.scheme c.args.suite.now) (table_in c.args.slots.now) c.args.at c.in_ok-counter.counter c.in_ok-counter.ensures c.in_ok-line.line c.in_ok-line.ensures.1 (sym c.if-not-node_valid.true ∙ c.node_valid.ensures); slot = tt }
 
 pub slot_from-requires : goal.slot_from-requires
-slot_from-requires g c = (c.requires, node_words c.args.layout.levels (g.B.Board.meaning c.args.board.now) (g.S.Suite.scheme c.args.suite.now) (table_in c.args.slots.now) c.args.at c.in_ok-counter.counter c.in_ok-counter.ensures c.in_ok-line.line c.in_ok-line.ensures.1)
+slot_from-requires g c = record { place = c.requires; own_counters = node_words c.args.layout.levels (g.B.Board.meaning c.args.board.now) (g.S.Suite.scheme c.args.suite.now) (table_in c.args.slots.now) c.args.at c.in_ok-counter.counter c.in_ok-counter.ensures c.in_ok-line.line c.in_ok-line.ensures.1 }
 
 pub returns : goal.returns
 returns g c =

@@ -12,7 +12,10 @@ use Rattle.controller.proofs.write.evict_overdue.Goals as goal
 pub evict-requires : goal.evict-requires
 evict-requires g c =
     let s = c.args.slots.now in
-    ((c.requires.0, (c.requires.1.0, overdue_dirty (table_in s c.args.at) (sym c.if-overdue.true ∙ c.overdue.ensures))), omega (arith, c.requires.1.1, lines_small s.layout.levels s.layout.low s.layout.high))
+    record {
+      node = (c.requires.0, (c.requires.1.0, overdue_dirty (table_in s c.args.at) (sym c.if-overdue.true ∙ c.overdue.ensures)));
+      countable = omega (arith, c.requires.1.1, lines_small s.layout.levels s.layout.low s.layout.high);
+    }
 
 pub returns-then-overdue : goal.returns-then-overdue
 returns-then-overdue g c =

@@ -27,7 +27,7 @@ returns-then-leaf-lines g c =
     let n : c.lines.result ≡ lines_of s.layout.levels = c.lines.ensures.value ∙ ap (λ (y : Layout). (shape_in y).lines) c.layout-layout.ensures in
     record {
       went = subst (λ (r : Run). Went r M none M T c.args.commits.now c.args.commits.now) (before_root h K c.args.capacity M T c.args.at p q (omega (arith, n, c.if-leaf-lines.true))) (went_stay M T c.args.commits.now);
-      fits = c.requires.0.0;
+      fits = c.requires.place.0;
       layout = refl;
       roomy = λ _ k. absurd (omega (arith, n, q, c.if-leaf-lines.true));
       tally = omega arith;
@@ -37,7 +37,7 @@ pub evict_overdue-requires : goal.evict_overdue-requires
 evict_overdue-requires g c =
     let s = c.args.slots.now in
     let n : c.lines.result ≡ lines_of s.layout.levels = c.lines.ensures.value ∙ ap (λ (y : Layout). (shape_in y).lines) c.layout-layout.ensures in
-    (c.requires.0.0, (omega (arith, n, c.if-leaf-lines.false), omega (arith, c.requires.1.1.1)))
+    (c.requires.place.0, (omega (arith, n, c.if-leaf-lines.false), omega (arith, c.requires.bounds.1.1)))
 
 pub returns-in_err-evict_overdue : goal.returns-in_err-evict_overdue
 returns-in_err-evict_overdue g c =
@@ -89,7 +89,7 @@ pub evict_until-requires : goal.evict_until-requires
 evict_until-requires g c =
     let M₁ = g.B.Board.meaning c.evict_overdue.new.board in
     let d = c.in_ok-evict_overdue.ensures in
-    (subst (λ (y : Layout). Fits y.levels M₁) (sym d.layout) d.fits, omega (arith, d.tally, c.requires.1.1.1))
+    (subst (λ (y : Layout). Fits y.levels M₁) (sym d.layout) d.fits, omega (arith, d.tally, c.requires.bounds.1.1))
 
 pub returns : goal.returns
 returns g c =
@@ -114,11 +114,11 @@ returns g c =
     let went = subst (λ k. Went (evict_until (eight_ary h) K k (lines_of h) (view_in M₁ T₁)) M₁ o M₂ T₂ c.evict_overdue.new.commits c.evict_until.new.commits) keep (subst (λ (y : Layout). Went (evict_until (shape_in y) K c.beside_one_more.result (shape_in y).lines (view_in M₁ T₁)) M₁ (ended c.evict_until.result) M₂ T₂ c.evict_overdue.new.commits c.evict_until.new.commits) d.layout f.went) in
     let freed = subst (λ k. Freed (eight_ary h) k T₁ o s₂.used T₂) keep (subst (λ (y : Layout). Freed (shape_in y) c.beside_one_more.result T₁ (ended c.evict_until.result) s₂.used T₂) d.layout f.freed) in
     let bare = sym c.if-holds.false ∙ c.holds.ensures in
-    let leaf = leaf_low h K cap M T c.args.at p q s.layout.low s.layout.high c.requires.0.1 in
+    let leaf = leaf_low h K cap M T c.args.at p q s.layout.low s.layout.high c.requires.place.1 in
     record {
       went = subst (λ (r : Run). Went r M o M₂ T₂ c.args.commits.now c.evict_until.new.commits) (before_node h K cap M T c.args.at p q (omega (arith, n, c.if-leaf-lines.false))) (went_then (evict_overdue (eight_ary h) K (view_in M T) p) (λ u. make_room (eight_ary h) K cap p u (u.table p)) M M₁ T₁ c.args.commits.now c.evict_overdue.new.commits M₂ T₂ o c.evict_until.new.commits d.went (subst (λ (r : Run). Went r M₁ o M₂ T₂ c.evict_overdue.new.commits c.evict_until.new.commits) (room_clean h K cap M₁ T₁ c.args.at p q bare) went));
       fits = subst (λ (y : Layout). Fits y.levels M₂) d.layout f.fits;
       layout = f.layout ∙ d.layout;
-      roomy = λ e. roomy_clean h K cap M₂ T₂ c.args.at p q s₂.used ((freed e).1 p leaf (not_dirty h K cap M₁ T₁ c.args.at p q bare)) (omega (arith, (freed e).0, c.requires.1.0, c.requires.1.1.0));
+      roomy = λ e. roomy_clean h K cap M₂ T₂ c.args.at p q s₂.used ((freed e).1 p leaf (not_dirty h K cap M₁ T₁ c.args.at p q bare)) (omega (arith, (freed e).0, c.requires.bounds.0, c.requires.bounds.1.0));
       tally = omega (arith, d.tally, f.tally);
     }

@@ -17,7 +17,7 @@ pub append-requires : goal.append-requires
 append-requires c =
     let free : c.args.self.now.used < 64 = leb-false 64 c.args.self.now.used (sym c.is_full.ensures ∙ c.if-is_full.false) in
     let n = node_parts (shape_in c.args.self.now.layout) c.args.slot.address (sym c.if-not-is_node.ensures) in
-    ((free, not_dirty _ (sym c.if-holds.ensures)), (n.0, (n.1, within_at (row c.args.slot.counters) (sym c.if-not-within_limit.ensures))))
+    record { room = (free, not_dirty _ (sym c.if-holds.ensures)); fits = (n.0, (n.1, within_at (row c.args.slot.counters) (sym c.if-not-within_limit.ensures))) }
 
 pub returns : goal.returns
 returns c =

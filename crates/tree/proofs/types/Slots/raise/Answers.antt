@@ -18,12 +18,12 @@ pub returns-then-self-i-ge1023 : goal.returns-then-self-i-ge1023
 returns-then-self-i-ge1023 c =
     ((λ f. both_ways (overdue (table_in c.args.self.now c.args.at)) f.in_time (ap overdue c.in-Some.ensures.1 ∙ le-leb 1023 (get_or c.args.self.now.table c.in-Some.i no_slot).pending c.if-self-i-ge1023.true)), refl)
 
-pub invariant-of-self : goal.invariant-of-self
+pub invariant_of-self : goal.invariant_of-self
 unfolding table_in
-invariant-of-self c =
+invariant_of-self c =
     let s = c.args.self.now in
     let D = ordered_held s.layout.levels s.table s.used c.in-Some.i c.args.index c.args.counter c.raise_slot.new.slot (ordered_in s) s.fit c.in-Some.ensures.0 c.raise_slot.ensures.place c.raise_slot.ensures.raised c.if-counter-gt-LIMIT.false in
-    (s.few, (D.fit, (D.apart, (D.range, (D.node, (D.small, tt))))))
+    record { few = s.few; fit = D.fit; apart = D.apart; range = D.range; node = D.node; small = D.small }
 
 pub returns-in-Some : goal.returns-in-Some
 unfolding table_in
@@ -55,16 +55,16 @@ append-requires c =
     let free : c.args.self.now.used < 64 = leb-false 64 c.args.self.now.used (sym c.is_full.ensures ∙ c.if-is_full.false) in
     let s = c.args.self.now in
     let n = node_parts (shape_in s.layout) c.args.at (sym c.if-not-is_node.ensures) in
-    let e = sym c.raise_slot-2.ensures.place in (
-      (free, ap (table_in c.args.self.now) (sym e) ∙ c.in_default.ensures),
-      (
+    let e = sym c.raise_slot-2.ensures.place in record {
+      room = (free, ap (table_in c.args.self.now) (sym e) ∙ c.in_default.ensures);
+      fits = (
         subst (λ x. 8 ^ c.args.self.now.layout.levels ≤ x) e n.0,
         (
           subst (λ x. x < lines_of c.args.self.now.layout.levels) e n.1,
           λ k h. subst (λ (z : DirtyNode). z.counters k ≤ counter_limit) (sym c.raise_slot-2.ensures.raised) (raised_small (row c.args.fresh.now) c.args.index c.args.counter k c.if-counter-gt-LIMIT.false (within_at (row c.args.fresh.now) (sym c.if-not-within_limit.ensures) k h)),
         ),
-      ),
-    )
+      );
+    }
 
 pub returns : goal.returns
 returns c =

@@ -11,10 +11,10 @@ returns c =
     let s = c.args.self.now in
     (ap is_dirty F.1, sym (ap slot_counters F.1), table_out s.layout.levels s.table s.used c.in-Some.i (s.used - 1) c.args.at (ordered_in s) s.fit F.0 (omega (arith, F.0)) F.2, omega (arith, F.0), refl)
 
-pub invariant-of-self : goal.invariant-of-self
+pub invariant_of-self : goal.invariant_of-self
 unfolding table_in
-invariant-of-self c =
+invariant_of-self c =
     let F = c.in-Some.ensures in
     let s = c.args.self.now in
     let D = ordered_out s.layout.levels s.table s.used c.in-Some.i (s.used - 1) c.args.at (ordered_in s) s.fit F.0 (omega (arith, F.0)) F.2 in
-    (omega (arith, F.0), (D.fit, (D.apart, (D.range, (D.node, (D.small, tt))))))
+    record { few = omega (arith, F.0); fit = D.fit; apart = D.apart; range = D.range; node = D.node; small = D.small }
