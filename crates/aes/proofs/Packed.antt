@@ -1,5 +1,5 @@
 -- Columns of four bytes: exclusive or, turns by whole bytes, and the rounds.
-use Rattle.std.proofs.Common.{◌≡◌, ℕ, ◌+◌, ◌*◌, ◌/◌, ◌%◌, ◌^◌, ◌<◌, List, [], ◌∷◌, ◌++◌, length, get_or, sym, refl, ap, ◌∙◌, arith}
+use Rattle.std.proofs.Common.{◌≡◌, ℕ, ◌+◌, ◌*◌, ◌/◌, ◌%◌, ◌<◌, List, [], ◌∷◌, ◌++◌, length, get_or, sym, refl, ap, ◌∙◌, arith}
 use lib.Bits.{bit_or, bit_xor, xor_block, xor_lt, xor_shr, xor_mod, xor_assoc, xor_comm, or_shifted_r}
 use Rattle.std.proofs.lemmas.List.FromFn.{fill_by_all}
 use Rattle.aes.specs.Field.{sbox, times}

@@ -1,5 +1,5 @@
 -- Small products in the field, and bytes that stay bytes.
-use Rattle.std.proofs.Common.{◌≡◌, ℕ, zero, suc, ◌+◌, ◌*◌, ◌/◌, ◌%◌, ◌<◌, ◌≤◌, Bool, true, false, cond, eqb, sym, refl, subst, one-mul, zero-mul, arith}
+use Rattle.std.proofs.Common.{◌≡◌, ℕ, zero, suc, ◌*◌, ◌/◌, ◌%◌, ◌<◌, ◌≤◌, Bool, true, false, cond, eqb, one-mul, zero-mul, arith}
 use lib.Bits.{bit_xor, xor_zero_r, xor_lt}
 use Rattle.aes.specs.Field.{times, times_bits, xtime, inverse_up_to, inverse, rotl8, affine, sbox}
 

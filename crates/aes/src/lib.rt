@@ -1,4 +1,6 @@
 // AES-128 encryption (FIPS 197).
+#![tactic(auto)]
+
 mod columns;
 mod field;
 mod rounds;

@@ -1,5 +1,5 @@
 -- A run of the lines below: how many there are, and which line below stands at an address of it.
-use Rattle.std.proofs.Common.{◌≡◌, ℕ, ◌+◌, ◌-◌, ◌<◌, ◌≤◌, min, List, length, get_or, take, drop, set, Some, None, Option, sym, refl, ap, ◌∙◌, arith, rules, MatchOption}
+use Rattle.std.proofs.Common.{◌≡◌, ℕ, ◌+◌, ◌-◌, ◌<◌, ◌≤◌, min, List, length, get_or, take, drop, set, Some, None, Option, sym, ap, ◌∙◌, arith, rules, MatchOption}
 use Rattle.std.proofs.lemmas.List.{same_lists, places, length-set, length-take, length-drop, get_or-set_same, get_or-take, get_or-drop}
 use Rattle.std.proofs.lemmas.Bool.{cases_eq}
 use Rattle.board.specs.Piles.{Shows}

@@ -1,6 +1,6 @@
 -- What each call of a board answers, and what the board is afterwards.
 use Rattle.std.specs.Prelude.{◌≡◌, ℕ, ◌<◌, ◌≤◌, List, length, Ok, Err, Result, slice_index_or, slice_set}
-use Rattle.board.specs.Meaning.{Meaning, Power, endless, writes, Spent}
+use Rattle.board.specs.Meaning.{Meaning, writes, Spent}
 use Rattle.board.specs.declared.types.Line.{Line}
 use Rattle.board.specs.declared.types.BoardFault.{BoardFault}
 use Rattle.board.specs.declared.types.BoardFault.TheVariants.{Absent, PowerLost}

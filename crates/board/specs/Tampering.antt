@@ -1,5 +1,5 @@
 -- What reaches a board past its own calls: a line put in place, and power set anew.
-use Rattle.std.specs.Prelude.{◌≡◌, ℕ, ◌<◌, ◌≤◌, Bool, true, false, length, set, Option, slice_set}
+use Rattle.std.specs.Prelude.{◌≡◌, ℕ, ◌<◌, ◌≤◌, Bool, true, false, length, Option, slice_set}
 use Rattle.board.specs.Meaning.{Meaning, Power, lesser}
 use Rattle.board.specs.declared.types.Line.{Line}
 

@@ -1,4 +1,6 @@
 // The controller as C functions, for the benchmark driver: calls on a board under suite 1, and the cipher calls that they need.
+#![tactic(auto)]
+
 ghost use Rattle.std.specs.Prelude.{◌≤◌};
 
 use board::board::Board;

@@ -1,4 +1,6 @@
 // The ciphers as C functions, for the benchmark driver: each result feeds the next turn, so that no turn can be left out.
+#![tactic(auto)]
+
 pub mod types;
 
 ghost use Rattle.std.specs.Prelude.{◌≡◌, ◌++◌, drop};

@@ -1,10 +1,9 @@
 -- Blocks and the chain of CMAC, step by step.
-use Rattle.std.proofs.Common.{◌≡◌, ℕ, zero, suc, ◌+◌, ◌-◌, ◌*◌, ◌/◌, ◌%◌, ◌<◌, ◌≤◌, false, eqb, ◌≢◌, List, [], ◌∷◌, ◌++◌, length, get_or, take, drop, set, replicate, sym, refl, ap, ◌∙◌, add-one, arith, below_more, ne_eqb}
-use lib.Bits.{bit_xor}
+use Rattle.std.proofs.Common.{◌≡◌, ℕ, suc, ◌+◌, ◌-◌, ◌*◌, ◌/◌, ◌%◌, ◌<◌, ◌≤◌, false, eqb, ◌≢◌, List, ◌∷◌, ◌++◌, length, get_or, take, drop, set, replicate, sym, refl, ap, ◌∙◌, add-one, arith, below_more, ne_eqb}
 use Rattle.std.proofs.lemmas.List.{length-set, get_or-set_same, get_or-set_other, get_or_past, length-append, length-drop, length-replicate, append_assoc, drop-replicate, replicate-append-replicate, set_at, take_at, take_all, take_rest}
 use Rattle.std.proofs.lemmas.List.FromFn.{fill_by_all}
 use Rattle.aes.specs.Aes.{xor_blocks}
-use Rattle.cmac.specs.Cmac.{cmac, chained, zeros, shifted, doubled, padded, last_block, subkey1, subkey2, before_last}
+use Rattle.cmac.specs.Cmac.{chained, zeros, shifted, doubled, padded, last_block, subkey1, before_last}
 
 -- All bytes of a shifted block: the last takes nothing from the right.
 pub shifted_from : (b out : List ℕ) (i v : ℕ) → length b ≡ 16 → length out ≡ 16 → i ≡ 15 → ((k : ℕ) → k < i → get_or out k 0 ≡ get_or b k 0 % 128 * 2 + get_or b (k + 1) 0 / 128) → v ≡ get_or b 15 0 % 128 * 2 → set out 15 v ≡ shifted b

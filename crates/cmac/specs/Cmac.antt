@@ -1,5 +1,5 @@
 -- CMAC (NIST SP 800-38B) over any cipher `ciph` on blocks of 16 bytes.
-use Rattle.std.specs.Prelude.{ℕ, zero, suc, ◌+◌, ◌-◌, ◌*◌, ◌/◌, ◌%◌, cond, List, [], ◌∷◌, ◌++◌, length, take, drop, replicate, ◌==◌, bit_xor, nat_lt, slice_index, slice_set}
+use Rattle.std.specs.Prelude.{ℕ, zero, suc, ◌+◌, ◌-◌, ◌*◌, ◌/◌, ◌%◌, cond, List, ◌∷◌, ◌++◌, length, take, drop, replicate, ◌==◌, bit_xor, nat_lt, slice_index, slice_set}
 use Rattle.aes.specs.Aes.{sixteen, xor_blocks}
 
 -- A block shifted left by one bit.

@@ -1,4 +1,6 @@
 // AES-CMAC (NIST SP 800-38B) of a message of any length.
+#![tactic(auto)]
+
 mod blocks;
 
 ghost use Rattle.std.specs.Prelude.{◌≡◌, ◌≤◌, length};

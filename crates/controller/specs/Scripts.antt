@@ -15,7 +15,7 @@ use Rattle.controller.specs.declared.event.Reply.{Reply}
 use Rattle.controller.specs.declared.event.Reply.TheVariants.{Body, Done, Refused, Put}
 use Rattle.controller.specs.Views.{fault_of}
 use Rattle.controller.specs.declared.chip.Chip.{Chip}
-use Rattle.controller.specs.Worlds.{world_in, Goes_on, Does, write_plan, flush_plan, read_of}
+use Rattle.controller.specs.Worlds.{world_in, GoesOn, Does, write_plan, flush_plan, read_of}
 use Rattle.controller.specs.BringUps.{BringsUp}
 
 -- What happened and what it answered, in order.
@@ -26,7 +26,7 @@ Trace = List (Happening × Answer)
 abbrev pub GoesThrough : Scheme → World → Log → Trace → World → Type 0
 GoesThrough S w l [] w' = (w' ≡ w) × Reached eight_ary S w l × Promises eight_ary S w l
 GoesThrough S w l (p ∷ t) w' =
-    (w₁ : World) × (Fair eight_ary S w l p.0 → (l₁ : Log) × Goes_on S w l p.0 p.1 w₁ l₁ × GoesThrough S w₁ l₁ t w')
+    (w₁ : World) × (Fair eight_ary S w l p.0 → (l₁ : Log) × GoesOn S w l p.0 p.1 w₁ l₁ × GoesThrough S w₁ l₁ t w')
 
 -- In every history that came to world w, the trace goes on to w'.
 abbrev pub KeepsThrough : Scheme → World → Trace → World → Type 0

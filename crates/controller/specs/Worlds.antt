@@ -61,7 +61,7 @@ abbrev pub report_in : Report → Answer
 report_in r = report_by r.outcome r.commits
 
 -- One event of a history: it happened as the definitions say, it obeys its law, and what it left is reached and holds what is promised at every point: no counter used twice, the register and the slots as the log says.
-pub record Goes_on (S : Scheme) (w : World) (l : Log) (e : Event) (x : Answer) (w' : World) (l' : Log) : Type 0 where
+pub record GoesOn (S : Scheme) (w : World) (l : Log) (e : Event) (x : Answer) (w' : World) (l' : Log) : Type 0 where
   pub step : Step eight_ary S w l e x w' l'
   pub law : Law eight_ary S w l w.chip e x w' l'
   pub reached : Reached eight_ary S w' l'
@@ -69,7 +69,7 @@ pub record Goes_on (S : Scheme) (w : World) (l : Log) (e : Event) (x : Answer) (
 
 -- In every history that came to world w, event e with answer x goes on to w'.
 abbrev pub Keeps : Scheme → World → Event → Answer → World → Type 0
-Keeps S w e x w' = (l : Log) → Reached eight_ary S w l → (l' : Log) × Goes_on S w l e x w' l'
+Keeps S w e x w' = (l : Log) → Reached eight_ary S w l → (l' : Log) × GoesOn S w l e x w' l'
 
 -- The same in every history of the board, under whatever suite, where a fault is latched: so it is in that of a board that was brought up under another suite's number.
 abbrev pub KeepsLatched : Maybe Fault → World → Event → Answer → World → Type 0

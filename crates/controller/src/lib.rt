@@ -1,4 +1,6 @@
 // The controller of a board of untrusted memory: cold and open boards and their calls.
+#![tactic(auto)]
+
 mod bring_up;
 pub mod chip;
 pub mod cold;

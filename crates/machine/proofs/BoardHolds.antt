@@ -1,5 +1,5 @@
 -- What holds of a board at every point of its history.
-use Rattle.std.proofs.Common.{◌≡◌, ℕ, ◌<◌, ◌≤◌, ◌⊎◌, []}
+use Rattle.std.proofs.Common.{◌≡◌, ℕ, ◌≤◌, ◌⊎◌, []}
 use Rattle.suite.specs.Scheme.{Scheme}
 use Rattle.machine.specs.Layout.{Shape}
 use Rattle.machine.specs.Store.{Log, Register, BoardState}

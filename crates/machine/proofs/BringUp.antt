@@ -1,8 +1,7 @@
 -- Bring-up keeps what holds, and its law.
-use Rattle.std.proofs.Common.{◌≡◌, ℕ, zero, suc, ◌+◌, ◌-◌, ◌%◌, ◌<◌, ◌≤◌, Bool, true, false, cond, not, ◌&&◌, ◌||◌, eqb, ltb, leb, ◌⊎◌, ◌↔◌, List, [], ◌∷◌, ◌++◌, length, sym, refl, ap, ◌∙◌, subst, inl, inr, ⊎_elim, true≢false, le_refl, arith}
-use mathlib.Core.Bool.{false≢true}
+use Rattle.std.proofs.Common.{◌≡◌, ℕ, zero, suc, ◌+◌, ◌<◌, ◌≤◌, Bool, true, false, cond, not, ◌&&◌, ◌||◌, eqb, ltb, leb, ◌⊎◌, ◌↔◌, List, length, sym, refl, ap, ◌∙◌, subst, inl, inr, le_refl, arith}
 use mathlib.Core.Option.{Option, some, none}
-use Rattle.std.proofs.lemmas.Bool.{ltb-true, ltb-false, lt-ltb, cases_lt, cases_eq, leb-true, leb-false, le-leb, eq-eqb, eqb-true, eqb-false, and_parts, and_from, and_cases, both_ways, or_left, or_right, not_from_false}
+use Rattle.std.proofs.lemmas.Bool.{ltb-true, ltb-false, lt-ltb, cases_eq, leb-true, le-leb, eq-eqb, eqb-true, and_parts, and_from, both_ways, or_left, or_right}
 use Rattle.suite.specs.Scheme.{Line, Scheme}
 use Rattle.board.specs.Meaning.{Power}
 use Rattle.machine.specs.Layout.{Shape, TreeLaws, update}
@@ -13,10 +12,10 @@ use Rattle.machine.specs.History.{opened, refused, done, counter_in, World, latc
 use Rattle.machine.specs.Laws.{Stands, RecoveryRests}
 use Rattle.machine.proofs.Invariant.{Durable, Fine, Exact, SlotsHold}
 use Rattle.machine.proofs.Basics.{update_same, update_other, every_from, sum_le, some_inj, none≢some, err≢ok}
-use Rattle.machine.proofs.Trails.{OpenHolds, ColdHolds}
+use Rattle.machine.proofs.Trails.{ColdHolds}
 use Rattle.machine.proofs.BoardHolds.{FormattedBoard, BoardHolds, Holds}
-use Rattle.machine.proofs.Cuts.{cut_le, cut_lost, refused_inj, done≢refused, done_inj}
-use Rattle.machine.proofs.Recovery.{recover_valid, recover_complete, recover_cause}
+use Rattle.machine.proofs.Cuts.{cut_le, done≢refused}
+use Rattle.machine.proofs.Recovery.{recover_valid, recover_complete}
 
 module _ (shapes : ℕ → Shape) (S : Scheme) where
   -- A formatted board's register is valid.

@@ -1,7 +1,7 @@
 -- What a bring-up answers, by what was committed.
-use Rattle.std.proofs.Common.{◌≡◌, ℕ, zero, suc, ◌+◌, ◌-◌, ◌<◌, ◌≤◌, Bool, true, false, cond, ◌&&◌, eqb, ltb, leb, ◌⊎◌, ◌↔◌, List, [], ◌∷◌, ◌++◌, length, sym, refl, ap, ◌∙◌, subst, inl, inr, ⊎_elim, arith}
+use Rattle.std.proofs.Common.{◌≡◌, ℕ, zero, suc, ◌<◌, ◌≤◌, Bool, true, false, cond, ◌&&◌, eqb, ltb, leb, ◌⊎◌, List, length, sym, refl, ap, ◌∙◌, subst, inl, inr, ⊎_elim, arith}
 use mathlib.Core.Option.{Option, some, none}
-use Rattle.std.proofs.lemmas.Bool.{ltb-true, ltb-false, lt-ltb, le-ltb, cases_eq, le-leb, lt-leb, eq-eqb, ne_eqb, and_from, eqb-true, eqb-false}
+use Rattle.std.proofs.lemmas.Bool.{ltb-true, ltb-false, lt-ltb, cases_eq, le-leb, lt-leb, eq-eqb, ne_eqb, and_from}
 use Rattle.suite.specs.Scheme.{Body, Line, Scheme}
 use Rattle.board.specs.Meaning.{Power, endless, writes}
 use Rattle.machine.specs.Layout.{Shape, TreeLaws, update}
@@ -16,7 +16,7 @@ use Rattle.machine.proofs.Invariant.{Durable}
 use Rattle.machine.proofs.Basics.{update_same, update_other, sum_same, some_inj, none≢some}
 use Rattle.machine.proofs.Trails.{ColdHolds}
 use Rattle.machine.proofs.BoardHolds.{FormattedBoard, BoardHolds}
-use Rattle.machine.proofs.Cuts.{cut_le, cut_lost, refused_inj, done≢refused}
+use Rattle.machine.proofs.Cuts.{cut_le, refused_inj, done≢refused}
 use Rattle.machine.proofs.Recovery.{recover_why, recover_cause}
 use Rattle.machine.proofs.RegisterSays.{dirty_say}
 use Rattle.machine.proofs.BringUp.{Recovers, valid_holds, journal_register, journal_fine, bring_up_holds}

@@ -1,8 +1,8 @@
 -- Writes and flushes follow the orders of commits that the log gives.
-use Rattle.std.proofs.Common.{◌≡◌, ℕ, zero, suc, ◌+◌, ◌-◌, ◌<◌, ◌≤◌, Bool, true, false, cond, eqb, ltb, leb, ◌⊎◌, List, [], ◌∷◌, ◌++◌, sym, refl, ap, ◌∙◌, subst, inl, inr, ⊎_elim, arith}
+use Rattle.std.proofs.Common.{◌≡◌, ℕ, zero, suc, ◌+◌, ◌-◌, ◌<◌, ◌≤◌, Bool, true, false, cond, leb, [], ◌∷◌, ◌++◌, sym, refl, ap, ◌∙◌, subst, inl, inr, arith}
 use mathlib.Core.Bool.{false≢true}
 use mathlib.Core.Option.{Option, some, none}
-use Rattle.std.proofs.lemmas.Bool.{cases_lt, cases_eq, both_ways, leb-true, leb-false}
+use Rattle.std.proofs.lemmas.Bool.{leb-true, leb-false}
 use Rattle.std.proofs.lemmas.List.{append_assoc}
 use Rattle.suite.specs.Scheme.{Body, Scheme}
 use Rattle.machine.specs.Layout.{Shape, TreeLaws, update}
@@ -12,10 +12,9 @@ use Rattle.machine.specs.Plans.{Slot, Table, is_dirty, slot_counters, View, Run,
 use Rattle.machine.specs.History.{counter_in}
 use Rattle.machine.specs.CommitLaws.{pending_in, dirty_in, counters_in, with_next, Evicted, alone, parent_first, EvictedUntil, enough, lowest_first, Written, under_root, leaf_dirty, leaf_clean, leaf_overdue, to_come}
 use Rattle.machine.specs.Plans as plans
-use Rattle.machine.proofs.Invariant.{Durable, Exact, SlotsHold}
 use Rattle.machine.proofs.Basics.{update_same, update_other, some_inj, none≢some, first_none, first_some}
 use Rattle.machine.proofs.TrustedCounter.{root_parent, inner_parent, depth_next}
-use Rattle.machine.proofs.Trails.{Legal, entry, Trail, end, step, join, OpenHolds, open_after}
+use Rattle.machine.proofs.Trails.{entry, Trail, end, step, join, OpenHolds, open_after}
 use Rattle.machine.proofs.Runs.{CanRaise, not_overdue, overdue_held, Reason, Commits, commit_goes, held_full, held_bare, held_inner, room_freed, data_slot}
 use Rattle.machine.proofs.SlotTable.{evict_slots}
 use Rattle.machine.proofs.RegisterSays.{counters_are, used_dirty, held_pending, free_level, slot_pending}

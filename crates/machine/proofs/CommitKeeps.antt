@@ -1,6 +1,5 @@
 -- One commit keeps the register, the log and the slots in step.
-use Rattle.std.proofs.Common.{◌≡◌, ℕ, zero, suc, ◌+◌, ◌-◌, ◌*◌, ◌%◌, ◌<◌, ◌≤◌, Bool, true, false, cond, eqb, ltb, leb, ◌⊎◌, List, [], ◌∷◌, sym, refl, ap, ◌∙◌, subst, inl, inr, ⊎_elim, true≢false, arith}
-use mathlib.Core.Bool.{false≢true}
+use Rattle.std.proofs.Common.{◌≡◌, ℕ, suc, ◌-◌, ◌<◌, ◌≤◌, Bool, true, false, ◌⊎◌, ◌∷◌, sym, refl, ap, ◌∙◌, subst, inl, inr, ⊎_elim, arith}
 use mathlib.Core.Option.{Option, some, none}
 use Rattle.std.proofs.lemmas.Bool.{cases_lt, cases_eq, both_ways, eq-eqb, ne_eqb}
 use Rattle.suite.specs.Scheme.{Body, Line, Scheme}
@@ -11,7 +10,7 @@ use Rattle.machine.specs.History.{counter_in, body_in, InLog}
 use Rattle.machine.specs.Laws.{Stands}
 use Rattle.machine.specs.CommitLaws.{pending_in}
 use Rattle.machine.proofs.Pending.{pending_own, pending_parent, pending_other}
-use Rattle.machine.proofs.Invariant.{Durable, Fine, Exact, Raised, SlotsHold}
+use Rattle.machine.proofs.Invariant.{Durable, Exact, Raised, SlotsHold}
 use Rattle.machine.proofs.Basics.{update_same, update_other, sum_same, sum_bump, sum_zero, some_inj, none≢some}
 use Rattle.machine.proofs.Lines.{node_words}
 use Rattle.machine.proofs.Recovery.{exact_sum}

@@ -1,5 +1,5 @@
 -- The law of commits for writes and flushes.
-use Rattle.std.proofs.Common.{◌≡◌, ℕ, zero, suc, ◌+◌, ◌-◌, ◌<◌, ◌≤◌, Bool, true, false, cond, eqb, ltb, leb, ◌⊎◌, List, [], ◌∷◌, ◌++◌, length, sym, refl, ap, ◌∙◌, subst, inl, inr, ⊎_elim, arith}
+use Rattle.std.proofs.Common.{◌≡◌, ℕ, ◌+◌, ◌<◌, ◌≤◌, Bool, true, false, cond, ltb, ◌⊎◌, ◌++◌, length, sym, refl, ap, ◌∙◌, subst, inl, inr, ⊎_elim, arith}
 use mathlib.Core.Option.{Option, some, none}
 use Rattle.std.proofs.lemmas.Bool.{ltb-true, ltb-false, lt-ltb, le-ltb}
 use Rattle.std.proofs.lemmas.List.{append_assoc, append-nil}
@@ -12,13 +12,12 @@ use Rattle.machine.specs.Plans.{Table, View, Run, stop, write_at, write_call, fl
 use Rattle.machine.specs.History.{counter_in, World, opened, latched, Answer, done, refused, ending, power_lost_at, answer_of, chip_of, after, view_of, shape_of, Ran}
 use Rattle.machine.specs.Laws.{Stands, WayStands, Unchanged}
 use Rattle.machine.specs.CommitLaws.{NotRaised, none_yet, EvictedUntil, Written, to_come, newest, InHand, limit_reached, before_register, before_line, corrupt_above, CommitLaw}
-use Rattle.machine.proofs.Basics.{some_inj, none≢some}
-use Rattle.machine.proofs.Trails.{Trail, OpenHolds, after_writes_all, register_kept}
+use Rattle.machine.proofs.Trails.{OpenHolds, after_writes_all, register_kept}
 use Rattle.machine.proofs.Runs.{Reason}
-use Rattle.machine.proofs.Cuts.{cut_le, cut_lost, answer_done, answer_refused, done≢refused, refused_inj}
+use Rattle.machine.proofs.Cuts.{cut_le, cut_lost, answer_done, answer_refused}
 use Rattle.machine.proofs.CutTrails.{Parts, parts, twice, checks, frame, stored, only}
 use Rattle.machine.proofs.CommitOrder.{to_come_front}
-use Rattle.machine.proofs.CallOrder.{Any, Plan, write_plan, flush_plan}
+use Rattle.machine.proofs.CallOrder.{Plan, write_plan, flush_plan}
 
 module _ (shapes : ℕ → Shape) (S : Scheme) (w : World) (L : TreeLaws (shape_of shapes w.board)) (cap : ℕ) (t : Table) (l : Log) (W : OpenHolds shapes (shape_of shapes w.board) S l (view_of w.board t)) where
   abbrev T : Shape

@@ -1,7 +1,7 @@
 -- The orders of commits over the log alone: what evicting leaves, and that every order can be carried out.
-use Rattle.std.proofs.Common.{◌≡◌, ℕ, zero, suc, ◌+◌, ◌-◌, ◌<◌, ◌≤◌, Bool, true, false, cond, eqb, ltb, leb, ◌⊎◌, List, [], ◌∷◌, ◌++◌, sym, refl, ap, ◌∙◌, subst, inl, inr, ⊎_elim, arith}
+use Rattle.std.proofs.Common.{◌≡◌, ℕ, zero, suc, ◌+◌, ◌<◌, ◌≤◌, cond, ltb, ◌⊎◌, [], ◌∷◌, ◌++◌, sym, refl, ap, ◌∙◌, subst, inl, inr, arith}
 use mathlib.Core.Option.{Option, some, none}
-use Rattle.std.proofs.lemmas.Bool.{cases_lt, cases_eq, ltb-true, ltb-false}
+use Rattle.std.proofs.lemmas.Bool.{cases_lt, ltb-true, ltb-false}
 use Rattle.std.proofs.lemmas.List.{append_assoc}
 use Rattle.suite.specs.Scheme.{Body}
 use Rattle.machine.specs.Layout.{Shape, TreeLaws, first}
@@ -9,7 +9,7 @@ use Rattle.machine.specs.Store.{Commit, Log}
 use Rattle.machine.specs.History.{counter_in}
 use Rattle.machine.specs.CommitLaws.{pending_in, dirty_in, counters_in, with_next, Evicted, alone, parent_first, EvictedUntil, enough, lowest_first, to_come}
 use Rattle.machine.proofs.Basics.{sum_zero, first_none, first_some, none≢some}
-use Rattle.machine.proofs.Pending.{pending_own, pending_parent, pending_other}
+use Rattle.machine.proofs.Pending.{pending_own, pending_other}
 use Rattle.machine.proofs.TrustedCounter.{root_parent, inner_parent, depth_next}
 
 pub to_come_cons : (x : Commit) (zs : Log) (q : ℕ) → to_come zs ≡ some q → to_come (x ∷ zs) ≡ some q

@@ -1,7 +1,7 @@
 -- A line that a bring-up names as corrupt does not stand, or one of those above it does not.
-use Rattle.std.proofs.Common.{◌≡◌, ℕ, zero, suc, ◌+◌, ◌-◌, ◌%◌, ◌<◌, ◌≤◌, Bool, true, false, cond, not, eqb, ltb, leb, ◌⊎◌, sym, refl, ap, ◌∙◌, subst, inl, inr, ⊎_elim, true≢false, le_refl, arith}
+use Rattle.std.proofs.Common.{◌≡◌, ℕ, zero, suc, ◌-◌, ◌<◌, ◌≤◌, Bool, true, false, cond, not, eqb, ltb, ◌⊎◌, sym, refl, ap, ◌∙◌, subst, inl, inr, arith}
 use mathlib.Core.Option.{Option, some, none}
-use Rattle.std.proofs.lemmas.Bool.{cases_lt, cases_eq, both_ways, and_parts, and_from, leb-true, le-leb, lt-ltb, ltb-false, not-true, not_from_true}
+use Rattle.std.proofs.lemmas.Bool.{cases_lt, cases_eq, both_ways, and_from, le-leb, lt-ltb, ltb-false, not_from_true}
 use Rattle.suite.specs.Scheme.{Line, Scheme, right}
 use Rattle.machine.specs.Layout.{Shape, TreeLaws, update, first}
 use Rattle.machine.specs.Store.{Register, Log}
@@ -10,9 +10,9 @@ use Rattle.machine.specs.Plans.{Slot, Table, View, node_valid, held, in_line, co
 use Rattle.machine.specs.History.{counter_in, body_in}
 use Rattle.machine.specs.Laws.{Stands, Rests, itself, above}
 use Rattle.machine.proofs.Invariant.{Durable}
-use Rattle.machine.proofs.Basics.{update_same, update_other, err≢ok, ok_inj, err_inj, cond_ok, none≢some, some_inj, first_some, term_le}
+use Rattle.machine.proofs.Basics.{update_same, update_other, err≢ok, ok_inj, err_inj, none≢some, some_inj, first_some, term_le}
 use Rattle.machine.proofs.Lines.{stands_right, stands_valid, node_words, child_is}
-use Rattle.machine.proofs.TrustedCounter.{rests_up, inner_parent, depth_next, root_parent, root_counter, line_counter}
+use Rattle.machine.proofs.TrustedCounter.{rests_up, inner_parent, depth_next, root_counter, line_counter}
 use Rattle.machine.proofs.Recovery.{slot_facts, bind_err}
 
 module _ (shapes : ℕ → Shape) (T : Shape) (L : TreeLaws T) (S : Scheme) (l : Log) (m : ℕ → Line) (g : Register) (D : Durable T S l g) where

@@ -1,8 +1,8 @@
 -- What a chain of commits cut anywhere leaves in the log and in the memory.
-use Rattle.std.proofs.Common.{◌≡◌, ℕ, zero, suc, ◌+◌, ◌-◌, ◌*◌, ◌%◌, ◌<◌, ◌≤◌, Bool, true, false, cond, ◌&&◌, eqb, ltb, leb, ◌⊎◌, List, [], ◌∷◌, ◌++◌, length, sym, refl, ap, ◌∙◌, subst, inl, inr, ⊎_elim, arith}
+use Rattle.std.proofs.Common.{◌≡◌, ℕ, zero, suc, ◌+◌, ◌<◌, ◌≤◌, true, ◌&&◌, ltb, ◌⊎◌, List, [], ◌∷◌, ◌++◌, length, sym, refl, ap, ◌∙◌, subst, inl, inr, ⊎_elim, arith}
 use mathlib.Core.Path.{fun_ext}
-use mathlib.Core.Option.{Option, some, none}
-use Rattle.std.proofs.lemmas.Bool.{cases_lt, cases_eq, both_ways}
+use mathlib.Core.Option.{some}
+use Rattle.std.proofs.lemmas.Bool.{cases_eq}
 use Rattle.std.proofs.lemmas.List.{append_assoc, length_push}
 use Rattle.suite.specs.Scheme.{Body, Line, Scheme, right}
 use Rattle.machine.specs.Layout.{Shape, TreeLaws, update}
@@ -11,8 +11,8 @@ use Rattle.machine.specs.Plans.{Table, View, commit_under}
 use Rattle.machine.specs.History.{counter_in, body_in, InLog}
 use Rattle.machine.specs.Laws.{WayStands, Stands, Rests}
 use Rattle.machine.specs.CommitLaws.{pending_in, to_come, newest, Checked, then}
-use Rattle.machine.proofs.Invariant.{Durable, Fine}
-use Rattle.machine.proofs.Basics.{update_same, update_other, some_inj, none≢some}
+use Rattle.machine.proofs.Invariant.{Fine}
+use Rattle.machine.proofs.Basics.{update_same, update_other, none≢some}
 use Rattle.machine.proofs.Lines.{line_right}
 use Rattle.machine.proofs.CommitKeeps.{counter_new, counter_old, body_new, body_old, counter_mono}
 use Rattle.machine.proofs.Trails.{Legal, entry, Trail, end, step, OpenHolds, after_line}

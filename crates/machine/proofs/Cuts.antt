@@ -1,5 +1,5 @@
 -- Cuts of a list of writes, and what answers tell.
-use Rattle.std.proofs.Common.{◌≡◌, ℕ, zero, suc, ◌+◌, ◌-◌, ◌<◌, ◌≤◌, Bool, true, false, cond, eqb, ltb, leb, ◌⊎◌, List, [], ◌∷◌, ◌++◌, length, sym, refl, ap, ◌∙◌, subst, inl, inr, ⊎_elim, arith}
+use Rattle.std.proofs.Common.{◌≡◌, ℕ, zero, suc, ◌+◌, ◌<◌, ◌≤◌, Bool, true, false, cond, ltb, ◌⊎◌, List, [], ◌∷◌, ◌++◌, length, sym, refl, ap, ◌∙◌, inl, inr, arith}
 use mathlib.Core.Option.{Option, some, none}
 use Rattle.std.proofs.lemmas.Bool.{ltb-true, ltb-false}
 use Rattle.suite.specs.Scheme.{Body}
@@ -8,7 +8,6 @@ use Rattle.machine.specs.Store.{Log, Write, write_register, write_line, BoardSta
 use Rattle.machine.specs.Faults.{Fault}
 use Rattle.machine.specs.Plans.{Run}
 use Rattle.machine.specs.History.{Answer, nothing, body_is, done, refused, ending, power_lost_at, answer_of}
-use Rattle.machine.proofs.Basics.{some_inj, none≢some}
 
 pub after_writes_front : (ws ws₁ : List Write) (k : ℕ) (b : BoardState) → k ≤ length ws → after_writes k (ws ++ ws₁) b ≡ after_writes k ws b
 unfolding after_writes

@@ -1,17 +1,15 @@
 -- The orders of commits leave no choice: from one log, one log.
-use Rattle.std.proofs.Common.{◌≡◌, ℕ, zero, suc, ◌+◌, ◌-◌, ◌<◌, ◌≤◌, ◌⊎◌, List, [], ◌∷◌, ◌++◌, sym, refl, ap, ◌∙◌, subst, inl, inr, ⊎_elim, arith}
-use mathlib.Core.Option.{Option, some, none}
-use Rattle.std.proofs.lemmas.Bool.{cases_lt, cases_eq}
+use Rattle.std.proofs.Common.{◌≡◌, ℕ, ◌-◌, ◌<◌, ◌≤◌, ◌⊎◌, sym, refl, ap, subst, inl, inr, arith}
+use Rattle.std.proofs.lemmas.Bool.{cases_lt}
 use Rattle.suite.specs.Scheme.{Body, Scheme}
 use Rattle.machine.specs.Layout.{Shape}
-use Rattle.machine.specs.Store.{Journal, line_at, Log}
-use Rattle.machine.specs.Faults.{number, Fault, fault, too_many_dirty, corrupt, sum_mismatch, power_lost}
-use Rattle.machine.specs.Plans.{Table}
-use Rattle.machine.specs.History.{refused, World, Chip, cold, opened, latched, done, counter_in, body_in}
-use Rattle.machine.specs.Laws.{RecoveryRests, Stands}
-use Rattle.machine.specs.CommitLaws.{newest, CommitLaw, pending_in, counters_in, with_next, Evicted, alone, parent_first, EvictedUntil, enough, lowest_first, Written, under_root, leaf_dirty, leaf_clean, leaf_overdue}
+use Rattle.machine.specs.Store.{Journal, Log}
+use Rattle.machine.specs.Faults.{number, fault, too_many_dirty, corrupt, sum_mismatch}
+use Rattle.machine.specs.History.{refused, World}
+use Rattle.machine.specs.Laws.{RecoveryRests}
+use Rattle.machine.specs.CommitLaws.{pending_in, counters_in, with_next, Evicted, alone, parent_first, EvictedUntil, enough, lowest_first, Written, under_root, leaf_dirty, leaf_clean, leaf_overdue}
 use Rattle.machine.specs.Promises.{BringUpLaw, Powerless, Passes}
-use Rattle.machine.proofs.Cuts.{refused_inj, done≢refused}
+use Rattle.machine.proofs.Cuts.{refused_inj}
 
 module _ (T : Shape) where
   not_both : (l : Log) (A : ℕ) → (T.parent A ≡ T.lines) ⊎ (pending_in T l (T.parent A) < 1023) → T.parent A < T.lines → 1023 ≤ pending_in T l (T.parent A) → ⊥

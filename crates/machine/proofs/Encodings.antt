@@ -1,15 +1,14 @@
 -- The register's words and fields: each comes back from the other, and both mean the same register.
-use Rattle.std.proofs.Common.{◌≡◌, ℕ, zero, suc, ◌+◌, ◌-◌, ◌*◌, ◌/◌, ◌%◌, ◌^◌, ◌<◌, ◌≤◌, Bool, true, false, cond, ◌&&◌, eqb, leb, List, [], ◌∷◌, ◌++◌, map, length, get_or, take, drop, set, replicate, Some, None, Option as Maybe, sym, refl, ap, ◌∙◌, subst, one-add, arith}
-use mathlib.Core.Option.{Option, some, none}
+use Rattle.std.proofs.Common.{◌≡◌, ℕ, zero, suc, ◌+◌, ◌-◌, ◌*◌, ◌/◌, ◌%◌, ◌^◌, ◌<◌, ◌≤◌, Bool, true, false, cond, ◌&&◌, eqb, leb, List, [], ◌∷◌, ◌++◌, length, take, drop, set, replicate, Some, None, Option as Maybe, sym, refl, ap, ◌∙◌, subst, one-add, arith}
+use mathlib.Core.Option.{some, none}
 use Rattle.std.proofs.lemmas.List.{append-nil, take_all, length-take, length-drop, get_or-take, get_or-drop}
-use Rattle.std.proofs.lemmas.Nat.{mod-pow-add, pow_pos}
+use Rattle.std.proofs.lemmas.Nat.{mod-pow-add}
 use Rattle.std.proofs.lemmas.List.FromFn.{fill_by_all}
 use Rattle.std.proofs.lemmas.Bool.{ne_eqb, le-leb, eqb-true, eqb-false}
 use Rattle.machine.proofs.Basics.{sum_same}
 use Rattle.machine.specs.declared.types.Register.{Register as Fields}
 use Rattle.machine.specs.declared.types.Journal.{Journal as Entry}
 use Rattle.machine.specs.Layout.{sum_to}
-use Rattle.machine.specs.Store.{Journal, Register}
 use Rattle.machine.specs.Words.{journal_words, journal_of, dirty_of, map_word, bit, journal_line, row, listed, no_address, register_in, words_of}
 use Rattle.machine.specs.Encoding.{journal_encoded, journal_meant, register_meant, encoded, decoded, with_journal, said, Real}
 

@@ -1,5 +1,5 @@
 -- A history there is: a board of one level is formatted, brought up, and written.
-use Rattle.std.proofs.Common.{◌≡◌, ℕ, false, [], refl}
+use Rattle.std.proofs.Common.{◌≡◌, false, [], refl}
 use mathlib.Core.Option.{none}
 use Rattle.suite.specs.Scheme.{Scheme}
 use Rattle.board.specs.Meaning.{endless}

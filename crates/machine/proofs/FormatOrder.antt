@@ -1,8 +1,7 @@
 -- Formatting in the order of its checks, and what it leaves.
-use Rattle.std.proofs.Common.{◌≡◌, ℕ, zero, suc, ◌+◌, ◌-◌, ◌<◌, ◌≤◌, Bool, true, false, cond, ◌&&◌, eqb, ltb, leb, ◌⊎◌, List, [], ◌∷◌, ◌++◌, length, sym, refl, ap, ◌∙◌, subst, inl, inr, ⊎_elim, arith}
+use Rattle.std.proofs.Common.{◌≡◌, ℕ, zero, suc, ◌+◌, ◌<◌, ◌≤◌, Bool, true, false, cond, ◌&&◌, ltb, leb, ◌⊎◌, List, [], ◌∷◌, ◌++◌, length, sym, refl, ap, ◌∙◌, subst, inl, inr, arith}
 use mathlib.Core.Option.{Option, some, none}
 use Rattle.std.proofs.lemmas.Bool.{ltb-true, ltb-false, lt-ltb, le-ltb, cases_lt, le-leb, lt-leb, eq-eqb, ne_eqb, and_from}
-use Rattle.std.proofs.lemmas.List.{length-append}
 use Rattle.suite.specs.Scheme.{Line, Scheme}
 use Rattle.board.specs.Meaning.{Power, writes}
 use Rattle.machine.specs.Layout.{TreeLaws, Shape, update}
@@ -12,7 +11,7 @@ use Rattle.machine.specs.Plans.{new_register, blank_lines, blank_log, format_wri
 use Rattle.machine.specs.History.{World, cold, Answer, done, refused, power_lost_at, after, format_check, Formatted}
 use Rattle.machine.specs.Laws.{Unchanged, NoReuse}
 use Rattle.machine.specs.Promises.{FormatLaw}
-use Rattle.machine.proofs.Basics.{update_same, update_other, some_inj, none≢some, upto}
+use Rattle.machine.proofs.Basics.{update_same, update_other, upto}
 use Rattle.machine.proofs.BoardHolds.{BoardHolds}
 use Rattle.machine.proofs.Cuts.{after_writes_front, after_writes_back, cut_le, cut_lost, refused_inj, done≢refused}
 use Rattle.machine.proofs.Formatting.{format_holds, blank_length, fresh_length, format_length, cut_short, all_done, format_may}

@@ -1,8 +1,8 @@
 -- Formatting: what a cut leaves, and what a formatted board holds.
-use Rattle.std.proofs.Common.{◌≡◌, ℕ, zero, suc, ◌+◌, ◌-◌, ◌%◌, ◌<◌, ◌≤◌, Bool, true, false, cond, ◌&&◌, eqb, ltb, leb, ◌⊎◌, ◌↔◌, List, [], ◌∷◌, ◌++◌, length, sym, refl, ap, ◌∙◌, subst, inl, inr, ⊎_elim, true≢false, arith}
+use Rattle.std.proofs.Common.{◌≡◌, ℕ, zero, suc, ◌+◌, ◌<◌, ◌≤◌, Bool, true, false, cond, ◌&&◌, eqb, ltb, leb, ◌⊎◌, List, [], ◌∷◌, ◌++◌, length, sym, refl, ap, ◌∙◌, subst, inl, inr, arith}
 use mathlib.Core.Bool.{false≢true}
 use mathlib.Core.Option.{Option, some, none}
-use Rattle.std.proofs.lemmas.Bool.{ltb-true, ltb-false, cases_lt, cases_eq, leb-true, leb-false, eqb-true, eqb-false, and_parts, and_cases}
+use Rattle.std.proofs.lemmas.Bool.{ltb-true, ltb-false, cases_lt, leb-true, eqb-true, and_parts}
 use Rattle.std.proofs.lemmas.List.{length-append, append-nil}
 use Rattle.suite.specs.Scheme.{Body, Line, Scheme}
 use Rattle.board.specs.Meaning.{Power}
@@ -15,10 +15,9 @@ use Rattle.machine.specs.Laws.{Stands, NoReuse}
 use Rattle.machine.specs.CommitLaws.{pending_in, JournalLaw}
 use Rattle.machine.proofs.Pending.{pending_own, pending_other}
 use Rattle.machine.proofs.Invariant.{Durable}
-use Rattle.machine.proofs.Basics.{update_same, update_other, sum_zero, some_inj, none≢some, upto}
-use Rattle.machine.proofs.Trails.{OpenHolds, ColdHolds}
-use Rattle.machine.proofs.BoardHolds.{FormattedBoard, BoardHolds}
-use Rattle.machine.proofs.Cuts.{after_writes_front, log_front, after_writes_back, log_back, cut_le, cut_lost, refused_inj, done≢refused}
+use Rattle.machine.proofs.Basics.{update_same, update_other, sum_zero, none≢some, upto}
+use Rattle.machine.proofs.BoardHolds.{BoardHolds}
+use Rattle.machine.proofs.Cuts.{after_writes_front, log_front, after_writes_back, log_back, cut_le, done≢refused}
 
 -- Lines alone are written.
 abbrev Plain : List Write → Type 0

@@ -1,7 +1,6 @@
 -- Every history keeps what holds, and so each event obeys its law.
-use Rattle.std.proofs.Common.{◌≡◌, ℕ, zero, suc, ◌+◌, ◌-◌, ◌%◌, ◌<◌, ◌≤◌, Bool, true, false, cond, eqb, ltb, leb, ◌⊎◌, List, [], ◌∷◌, ◌++◌, length, sym, refl, ap, ◌∙◌, subst, inl, inr, ⊎_elim, arith}
-use mathlib.Core.Option.{Option, some, none}
-use Rattle.std.proofs.lemmas.Bool.{ltb-true, ltb-false, cases_eq, cases_lt}
+use Rattle.std.proofs.Common.{◌≡◌, ℕ, ◌<◌, ◌≤◌, Bool, true, false, cond, ltb, ◌⊎◌, [], length, sym, refl, ap, ◌∙◌, subst, inl, inr, arith}
+use Rattle.std.proofs.lemmas.Bool.{ltb-true, ltb-false, cases_eq}
 use Rattle.suite.specs.Scheme.{Body, Line, Scheme}
 use Rattle.machine.specs.Layout.{Shape, TreeLaws, update}
 use Rattle.machine.specs.Store.{line_at, Register, Log, BoardState, after_writes, log_after}
@@ -11,10 +10,10 @@ use Rattle.machine.specs.History.{Chip, cold, opened, latched, World, Event, for
 use Rattle.machine.specs.Laws.{NoReuse, Unchanged}
 use Rattle.machine.specs.CommitLaws.{SlotsLaw}
 use Rattle.machine.specs.Promises.{Within, RegisterSays, Law, KeepsPromises, TreeLayouts}
-use Rattle.machine.proofs.Invariant.{Durable, Fine, SlotsHold}
+use Rattle.machine.proofs.Invariant.{Fine}
 use Rattle.machine.proofs.Basics.{update_same, update_other}
 use Rattle.machine.proofs.Trails.{Trail, end, OpenHolds, ColdHolds, open_to_cold, open_after, after_writes_all, after_writes_some, once_some, SameBoard, register_kept}
-use Rattle.machine.proofs.Runs.{Goes, Node, Wrote, wrote, flush_goes}
+use Rattle.machine.proofs.Runs.{wrote, flush_goes}
 use Rattle.machine.proofs.Cuts.{cut_le}
 use Rattle.machine.proofs.BoardHolds.{FormattedBoard, BoardHolds, Holds}
 use Rattle.machine.proofs.WriteLaws.{touched, write_part, flush_part}

@@ -1,5 +1,5 @@
 -- What holds of a formatted board between the writes of a history: the register against the log, the lines, the slots.
-use Rattle.std.proofs.Common.{◌≡◌, ℕ, zero, suc, ◌+◌, ◌-◌, ◌<◌, ◌≤◌, Bool, true, false, cond, ◌⊎◌}
+use Rattle.std.proofs.Common.{◌≡◌, ℕ, ◌-◌, ◌<◌, ◌≤◌, Bool, true, false, cond, ◌⊎◌}
 use mathlib.Core.Option.{Option, some, none}
 use Rattle.suite.specs.Scheme.{Body, Line, Scheme}
 use Rattle.machine.specs.Layout.{Shape, sum_to}

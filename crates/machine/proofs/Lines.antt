@@ -1,7 +1,6 @@
 -- What a right tag says of a line in memory.
-use Rattle.std.proofs.Common.{◌≡◌, ℕ, zero, suc, ◌+◌, ◌-◌, ◌*◌, ◌%◌, ◌<◌, ◌≤◌, Bool, true, false, cond, ◌&&◌, eqb, ltb, leb, ◌⊎◌, sym, refl, ap, ◌∙◌, subst, inl, inr, arith}
-use mathlib.Core.Option.{Option, some, none}
-use Rattle.std.proofs.lemmas.Bool.{eq-eqb, le-ltb, lt-ltb, and_parts, and_from, leb-true, le-leb}
+use Rattle.std.proofs.Common.{◌≡◌, ℕ, ◌-◌, ◌%◌, ◌<◌, ◌≤◌, Bool, true, false, cond, eqb, ltb, leb, refl, inl, inr, arith}
+use Rattle.std.proofs.lemmas.Bool.{eq-eqb, le-ltb, lt-ltb, and_parts, and_from, le-leb}
 use Rattle.suite.specs.Scheme.{Body, Line, Scheme, tag_of, right, data_line, node_line, mix}
 use Rattle.machine.specs.Layout.{Shape, TreeLaws}
 use Rattle.machine.specs.Store.{line_at, Register, Log}

@@ -1,7 +1,7 @@
 -- The law of commits leaves no choice but where power is lost: one answer, one log, one memory.
-use Rattle.std.proofs.Common.{◌≡◌, ℕ, zero, suc, ◌+◌, ◌<◌, ◌≤◌, Bool, true, false, ◌&&◌, ltb, ◌⊎◌, List, [], ◌∷◌, ◌++◌, length, sym, refl, ap, ◌∙◌, subst, inl, inr, ⊎_elim, arith}
+use Rattle.std.proofs.Common.{◌≡◌, ℕ, suc, ◌<◌, ◌≤◌, Bool, false, ◌&&◌, ltb, ◌⊎◌, [], ◌∷◌, ◌++◌, length, sym, refl, ap, ◌∙◌, subst, inl, inr, ⊎_elim, arith}
 use mathlib.Core.Path.{fun_ext}
-use mathlib.Core.Option.{Option, some, none}
+use mathlib.Core.Option.{some}
 use Rattle.std.proofs.lemmas.Bool.{cases_eq}
 use Rattle.std.proofs.lemmas.List.{append-nil, length-append}
 use Rattle.suite.specs.Scheme.{Body, Line, Scheme}
@@ -9,14 +9,13 @@ use Rattle.machine.specs.Layout.{Shape}
 use Rattle.machine.specs.Store.{line_at, Commit, Log}
 use Rattle.machine.specs.Faults.{Fault, fault, power_lost, corrupt, at_limit}
 use Rattle.machine.specs.History.{World, Answer, done, refused, counter_in, body_in, InLog}
-use Rattle.machine.specs.Laws.{Stands, Rests, itself, above, WayStands}
+use Rattle.machine.specs.Laws.{Stands, Rests, itself, above}
 use Rattle.machine.specs.CommitLaws.{Written, EvictedUntil, pending_in, with_next, to_come, newest, Checked, none_yet, then, InHand, corrupt_above, limit_reached, before_register, before_line, CommitLaw, RegisterLaw}
 use Rattle.machine.specs.Promises.{NotLost, SameOutcome, LawsDecide}
 use Rattle.machine.proofs.Basics.{some_inj, none≢some}
 use Rattle.machine.proofs.CommitKeeps.{counter_new, counter_old, body_old, counter_mono}
 use Rattle.machine.proofs.TrustedCounter.{rests_split}
-use Rattle.machine.proofs.CommitOrder.{to_come_cons, to_come_front, to_come_one}
-use Rattle.machine.proofs.Cuts.{done≢refused, refused_inj}
+use Rattle.machine.proofs.CommitOrder.{to_come_front}
 use Rattle.machine.proofs.Determined.{written_one, freed_one}
 
 -- Of two ends of one list, one is the other with something in front.

@@ -1,5 +1,5 @@
 -- A pad undoes itself.
-use Rattle.std.proofs.Common.{◌≡◌, ℕ, ap, ◌∙◌}
+use Rattle.std.proofs.Common.{◌≡◌, ap, ◌∙◌}
 use mathlib.Core.Path.{fun_ext}
 use lib.Bits.{bit_xor, xor_assoc, xor_self, xor_zero_r}
 use Rattle.suite.specs.Scheme.{Body, mix}

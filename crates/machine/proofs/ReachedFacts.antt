@@ -1,5 +1,5 @@
 -- What a call may rely on in every history, and the theorem as a call cites it.
-use Rattle.std.proofs.Common.{◌≡◌, ℕ, zero, suc, ◌-◌, ◌<◌, ◌≤◌, Bool, true, false, cond, ◌⊎◌, [], sym, refl, ap, ◌∙◌, subst, inl, inr, arith}
+use Rattle.std.proofs.Common.{◌≡◌, ℕ, ◌-◌, ◌<◌, ◌≤◌, true, sym, subst, arith}
 use mathlib.Core.Option.{Option, some, none}
 use Rattle.suite.specs.Scheme.{Scheme}
 use Rattle.machine.specs.Layout.{Shape, TreeLaws, eight_ary, sum_to}
@@ -7,10 +7,8 @@ use Rattle.machine.specs.Store.{Log, BoardState}
 use Rattle.machine.specs.Plans.{Slot, Table, is_dirty, dirty_count}
 use Rattle.machine.specs.History.{counter_in, body_in, opened, World, Event, Answer, shape_of, register_valid, Fair, Step, Reached, next}
 use Rattle.machine.specs.Promises.{Law}
-use Rattle.machine.proofs.Invariant.{Durable, Exact, Raised, SlotsHold}
-use Rattle.machine.proofs.Basics.{some_inj, none≢some}
-use Rattle.machine.proofs.Trails.{OpenHolds, ColdHolds}
-use Rattle.machine.proofs.BoardHolds.{FormattedBoard, BoardHolds, Holds}
+use Rattle.machine.proofs.Invariant.{Durable, Exact, Raised}
+use Rattle.machine.proofs.BoardHolds.{FormattedBoard, Holds}
 use Rattle.machine.proofs.BringUp.{valid_holds}
 use Rattle.machine.proofs.HistoryHolds.{holds, keeps_promises}
 use Rattle.machine.proofs.EightAry.{eight_trees}

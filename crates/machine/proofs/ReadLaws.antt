@@ -1,7 +1,6 @@
 -- The law of reads.
-use Rattle.std.proofs.Common.{◌≡◌, ℕ, zero, suc, ◌+◌, ◌-◌, ◌%◌, ◌<◌, ◌≤◌, Bool, true, false, cond, eqb, ltb, leb, ◌⊎◌, ◌↔◌, sym, refl, ap, ◌∙◌, subst, inl, inr, ⊎_elim, arith}
-use mathlib.Core.Option.{Option, some, none}
-use Rattle.std.proofs.lemmas.Bool.{ltb-true, ltb-false, cases_lt, lt-ltb, le-ltb, both_ways}
+use Rattle.std.proofs.Common.{◌≡◌, ℕ, ◌<◌, ◌≤◌, Bool, true, false, cond, ltb, sym, refl, ap, ◌∙◌, subst, inl, inr, ⊎_elim, arith}
+use Rattle.std.proofs.lemmas.Bool.{ltb-true, ltb-false, both_ways}
 use Rattle.suite.specs.Scheme.{Body, Scheme, right, mix}
 use Rattle.machine.specs.Layout.{Shape, TreeLaws}
 use Rattle.machine.specs.Store.{Log}
@@ -11,9 +10,8 @@ use Rattle.machine.specs.History.{World, Answer, refused, read_answer, view_of, 
 use Rattle.machine.specs.Laws.{WayStands, Stands, Rests, itself}
 use Rattle.machine.specs.Promises.{ReadLaw}
 use Rattle.machine.proofs.Invariant.{Durable}
-use Rattle.machine.proofs.Basics.{ok_inj, err_inj, err≢ok}
 use Rattle.machine.proofs.Lines.{right_stands, stands_right, data_words}
-use Rattle.machine.proofs.TrustedCounter.{rests_higher, rests_split, Way, counter_true, counter_found, counter_refused}
+use Rattle.machine.proofs.TrustedCounter.{Way, counter_true, counter_refused}
 use Rattle.machine.proofs.Trails.{OpenHolds}
 use Rattle.machine.proofs.Cuts.{body≢refused, body_inj, refused_inj}
 use Rattle.machine.proofs.Pads.{mix_undo}

@@ -1,6 +1,5 @@
 -- Bring-up: what it restores is never above the truth, so the dirty sum tells.
-use Rattle.std.proofs.Common.{◌≡◌, ℕ, zero, suc, ◌+◌, ◌-◌, ◌*◌, ◌%◌, ◌<◌, ◌≤◌, Bool, true, false, cond, not, ◌&&◌, eqb, ltb, leb, ◌⊎◌, ◌↔◌, sym, refl, ap, ◌∙◌, subst, inl, inr, ⊎_elim, true≢false, le_refl, arith}
-use mathlib.Core.Bool.{false≢true}
+use Rattle.std.proofs.Common.{◌≡◌, ℕ, zero, suc, ◌-◌, ◌<◌, ◌≤◌, Bool, true, false, cond, not, eqb, ltb, ◌⊎◌, sym, refl, ap, ◌∙◌, subst, inl, inr, ⊎_elim, le_refl, arith}
 use mathlib.Core.Option.{Option, some, none}
 use Rattle.std.proofs.lemmas.Bool.{cases_lt, both_ways, and_parts, and_from, not-false, lt-ltb, le-ltb, ltb-false, leb-true, le-leb, eqb-true, eq-eqb, not_from_true}
 use Rattle.suite.specs.Scheme.{Line, Scheme, right}
@@ -11,9 +10,9 @@ use Rattle.machine.specs.Plans.{Slot, Table, is_dirty, slot_counters, View, sum_
 use Rattle.machine.specs.History.{counter_in, body_in}
 use Rattle.machine.specs.Laws.{Stands, Rests, itself, above, RecoveryRests, way, child}
 use Rattle.machine.proofs.Invariant.{Durable, Fine, Exact, Raised, SlotsHold}
-use Rattle.machine.proofs.Basics.{update_same, update_other, sum_same, sum_le, sum_pinned, term_le, every_at, ok_inj, err_inj, err≢ok, bind_ok, cond_ok, first_none, first_some, none_first, some_inj, none≢some, upto}
+use Rattle.machine.proofs.Basics.{update_same, update_other, sum_same, sum_le, sum_pinned, term_le, ok_inj, err_inj, err≢ok, bind_ok, cond_ok, first_none, first_some, none_first, some_inj, none≢some, upto}
 use Rattle.machine.proofs.Lines.{right_stands, stands_right, stands_valid, valid_right, node_words, line_le, child_le, child_is}
-use Rattle.machine.proofs.TrustedCounter.{rests_higher, rests_split, rests_up, counter_true, counter_found, inner_parent, depth_next, root_parent}
+use Rattle.machine.proofs.TrustedCounter.{rests_up, counter_true, counter_found, inner_parent, depth_next, root_parent}
 
 module _ (T : Shape) (S : Scheme) where
   -- A found counter depends on the slots above the line alone.

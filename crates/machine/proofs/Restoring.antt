@@ -1,5 +1,5 @@
 -- The smallest number not below the stored one: the two facts that restoring rests on.
-use Rattle.std.proofs.Common.{◌≡◌, ℕ, ◌+◌, ◌-◌, ◌%◌, ◌≤◌, arith}
+use Rattle.std.proofs.Common.{◌≡◌, ℕ, ◌-◌, ◌%◌, ◌≤◌, arith}
 use Rattle.machine.specs.Layout.{restored}
 
 pub restored_le : (s c : ℕ) → s ≤ c → restored s (c % 1024) ≤ c

@@ -1,5 +1,5 @@
 -- Committing, evicting, evicting until, writing and flush are chains of commits, and are refused only with reason.
-use Rattle.std.proofs.Common.{◌≡◌, ℕ, zero, suc, ◌+◌, ◌-◌, ◌*◌, ◌%◌, ◌<◌, ◌≤◌, Bool, true, false, cond, eqb, ltb, leb, ◌⊎◌, List, [], ◌∷◌, ◌++◌, length, sym, refl, ap, ◌∙◌, subst, inl, inr, ⊎_elim, true≢false, arith}
+use Rattle.std.proofs.Common.{◌≡◌, ℕ, zero, suc, ◌+◌, ◌-◌, ◌<◌, ◌≤◌, Bool, true, false, cond, ltb, leb, ◌⊎◌, List, ◌∷◌, ◌++◌, sym, refl, ap, ◌∙◌, subst, inl, inr, ⊎_elim, arith}
 use mathlib.Core.Bool.{false≢true}
 use mathlib.Core.Option.{Option, some, none}
 use Rattle.std.proofs.lemmas.Bool.{cases_lt, cases_eq, both_ways, ltb-true, ltb-false, leb-true, leb-false}
@@ -10,9 +10,9 @@ use Rattle.machine.specs.Faults.{Fault, fault, Outcome, ok, err, corrupt, at_lim
 use Rattle.machine.specs.Plans.{Slot, Table, is_dirty, slot_counters, View, Run, stay, stop, chain, and_then, counter_at, counter_of, commit, commit_at, commit_under, overdue, evict_now, evict_at, evict, dirty_count, lowest, evict_lowest, evict_until, make_room, evict_overdue, write_at, flush_call}
 use Rattle.machine.specs.History.{counter_in}
 use Rattle.machine.specs.Laws.{WayStands, Stands, Rests, itself, above}
-use Rattle.machine.proofs.Invariant.{Durable, Fine, Exact, Raised, SlotsHold}
-use Rattle.machine.proofs.Basics.{update_same, update_other, some_inj, none≢some, first_none, first_some, sum_zero, term_le}
-use Rattle.machine.proofs.TrustedCounter.{rests_higher, counter_true, counter_refused, inner_parent, depth_next, root_parent}
+use Rattle.machine.proofs.Invariant.{Durable, Exact, SlotsHold}
+use Rattle.machine.proofs.Basics.{update_same, update_other, none≢some, first_none, first_some, sum_zero, term_le}
+use Rattle.machine.proofs.TrustedCounter.{counter_true, counter_refused, inner_parent, depth_next, root_parent}
 use Rattle.machine.proofs.CommitKeeps.{Fits}
 use Rattle.machine.proofs.Trails.{Legal, entry, Trail, end, step, join, OpenHolds, open_after, raise_other, leaf_kept}
 

@@ -1,14 +1,13 @@
 -- The slots by themselves: which ones a call touches, and that they suffice. No state of a history is asked, so code can cite these.
-use Rattle.std.proofs.Common.{◌≡◌, ℕ, zero, suc, ◌+◌, ◌-◌, ◌<◌, ◌≤◌, Bool, true, false, cond, eqb, ltb, leb, ◌⊎◌, List, [], ◌∷◌, ◌++◌, sym, refl, ap, ◌∙◌, subst, inl, inr, ⊎_elim, true≢false, arith}
-use mathlib.Core.Bool.{false≢true}
+use Rattle.std.proofs.Common.{◌≡◌, ℕ, zero, suc, ◌+◌, ◌-◌, ◌<◌, ◌≤◌, Bool, true, false, cond, ltb, leb, ◌⊎◌, sym, refl, ap, ◌∙◌, subst, inl, inr, arith}
 use mathlib.Core.Option.{Option, some, none}
-use Rattle.std.proofs.lemmas.Bool.{cases_lt, cases_eq, both_ways, leb-true, leb-false}
+use Rattle.std.proofs.lemmas.Bool.{cases_lt, cases_eq, both_ways, leb-true}
 use Rattle.suite.specs.Scheme.{Body, Scheme}
 use Rattle.machine.specs.Layout.{Shape, TreeLaws, update, sum_to}
 use Rattle.machine.specs.Faults.{Fault, fault, Outcome, ok, err, at_limit}
 use Rattle.machine.specs.Plans.{Slot, Table, is_dirty, slot_counters, View, Run, stay, stop, chain, and_then, counter_of, commit, commit_at, commit_under, raise_table, raised, slot_for, overdue, evict_now, evict_at, evict, dirty_count, lowest, evict_lowest, evict_until, make_room, evict_overdue, write_at}
-use Rattle.machine.proofs.Basics.{update_same, update_other, sum_same, sum_le, sum_bump, sum_zero, some_inj, none≢some, first_none, first_some}
-use Rattle.machine.proofs.TrustedCounter.{inner_parent, depth_next, root_parent}
+use Rattle.machine.proofs.Basics.{update_same, update_other, sum_same, sum_le, sum_bump, sum_zero, none≢some, first_none, first_some}
+use Rattle.machine.proofs.TrustedCounter.{inner_parent, depth_next}
 use Rattle.machine.proofs.Trails.{raise_other}
 use Rattle.machine.proofs.Runs.{then_none}
 

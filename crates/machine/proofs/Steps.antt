@@ -1,6 +1,6 @@
 -- The plans by the parent's place alone: the root, or a node below it. Code that follows a plan goes up by addresses and counts no steps.
-use Rattle.std.proofs.Common.{◌≡◌, ℕ, zero, suc, ◌-◌, ◌<◌, ◌≤◌, Bool, true, false, cond, ltb, ◌⊎◌, sym, refl, ap, ◌∙◌, inl, inr}
-use mathlib.Core.Option.{Option, some, none}
+use Rattle.std.proofs.Common.{◌≡◌, ℕ, suc, ◌<◌, ◌≤◌, cond, ap, ◌∙◌}
+use mathlib.Core.Option.{some}
 use Rattle.std.proofs.lemmas.Bool.{lt-ltb, le-ltb}
 use Rattle.suite.specs.Scheme.{Body, Line, Scheme}
 use Rattle.machine.specs.Layout.{Shape, TreeLaws, update}

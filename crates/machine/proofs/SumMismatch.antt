@@ -1,5 +1,5 @@
 -- Where the restored counters miss the dirty sum, every line that was rested on is one committed there, if long ago.
-use Rattle.std.proofs.Common.{◌≡◌, ℕ, zero, suc, ◌+◌, ◌-◌, ◌<◌, ◌≤◌, Bool, true, false, cond, eqb, ltb, leb, ◌⊎◌, sym, refl, ap, ◌∙◌, subst, inl, inr, ⊎_elim, true≢false, le_refl, arith}
+use Rattle.std.proofs.Common.{◌≡◌, ℕ, zero, suc, ◌<◌, ◌≤◌, Bool, true, false, cond, eqb, ◌⊎◌, sym, refl, ap, ◌∙◌, subst, inl, inr, ⊎_elim, le_refl, arith}
 use mathlib.Core.Option.{Option, some, none}
 use Rattle.std.proofs.lemmas.Bool.{both_ways, and_parts, leb-true}
 use Rattle.suite.specs.Scheme.{Body, Line, Scheme, right}
@@ -10,10 +10,10 @@ use Rattle.machine.specs.Plans.{Slot, Table, View, held, in_line, counter_at, co
 use Rattle.machine.specs.History.{counter_in, body_in, InLog}
 use Rattle.machine.specs.Laws.{Rests, RecoveryRests, way, child}
 use Rattle.machine.proofs.Invariant.{Durable, Fine}
-use Rattle.machine.proofs.Basics.{err≢ok, ok_inj, err_inj, cond_ok, none≢some}
+use Rattle.machine.proofs.Basics.{err≢ok, err_inj, cond_ok, none≢some}
 use Rattle.machine.proofs.Lines.{valid_right}
 use Rattle.machine.proofs.TrustedCounter.{rests_split, inner_parent, depth_next, root_parent}
-use Rattle.machine.proofs.Recovery.{Fixed, fixed, slot_facts, counter_le, child_right, restore_cause, bind_err}
+use Rattle.machine.proofs.Recovery.{Fixed, fixed, slot_facts, counter_le, child_right, restore_cause}
 
 module _ (shapes : ℕ → Shape) (T : Shape) (L : TreeLaws T) (S : Scheme) (l : Log) (m : ℕ → Line) (g : Register) (D : Durable T S l g) (fine : (q : ℕ) → q < T.lines → Fine shapes T S l m q) where
   abbrev CommittedBefore : ℕ → Type 0

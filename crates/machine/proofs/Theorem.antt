@@ -1,5 +1,4 @@
 -- The theorem: for every layout that obeys the tree laws, and for those with eight counters to a node.
-use Rattle.std.proofs.Common.{◌≡◌, ℕ, zero, suc, ◌≤◌, refl, arith}
 use Rattle.machine.specs.Promises.{HistoryHolds}
 use Rattle.machine.proofs.HistoryHolds.{keeps_promises}
 use Rattle.machine.proofs.EightAry.{eight_trees}

@@ -1,8 +1,7 @@
 -- A call's writes as a chain of commits, and what every cut of it leaves.
-use Rattle.std.proofs.Common.{◌≡◌, ℕ, zero, suc, ◌+◌, ◌-◌, ◌*◌, ◌%◌, ◌<◌, ◌≤◌, Bool, true, false, cond, eqb, ltb, leb, ◌⊎◌, List, [], ◌∷◌, ◌++◌, length, sym, refl, ap, ◌∙◌, subst, inl, inr, ⊎_elim, true≢false, arith}
-use mathlib.Core.Bool.{false≢true}
-use mathlib.Core.Option.{Option, some, none}
-use Rattle.std.proofs.lemmas.Bool.{cases_lt, cases_eq, both_ways, eq-eqb, ne_eqb}
+use Rattle.std.proofs.Common.{◌≡◌, ℕ, zero, suc, ◌<◌, ◌≤◌, ◌⊎◌, List, [], ◌∷◌, ◌++◌, length, sym, refl, ap, ◌∙◌, subst, inl, inr, arith}
+use mathlib.Core.Option.{some, none}
+use Rattle.std.proofs.lemmas.Bool.{cases_eq}
 use Rattle.suite.specs.Scheme.{Body, Line, Scheme}
 use Rattle.machine.specs.Layout.{Shape, TreeLaws, update}
 use Rattle.machine.specs.Store.{line_at, Journal, Register, Commit, Log, Write, write_register, write_line, BoardState, after_writes, log_after, commits_in}
@@ -10,9 +9,9 @@ use Rattle.machine.specs.Plans.{Table, View, raise_table, commit_under}
 use Rattle.machine.specs.History.{counter_in, body_in, Replayed}
 use Rattle.machine.specs.Laws.{Stands, Rests, SameCommit, NoReuse}
 use Rattle.std.proofs.lemmas.List.{append_assoc, length_push}
-use Rattle.machine.proofs.Invariant.{Durable, Fine, Exact, Raised, SlotsHold}
-use Rattle.machine.proofs.Basics.{update_same, update_other, some_inj, none≢some}
-use Rattle.machine.proofs.CommitKeeps.{Fits, counter_new, counter_old, body_new, body_old, new_table, new_register, new_durable, new_live, own_slot, other_slot}
+use Rattle.machine.proofs.Invariant.{Durable, Fine, SlotsHold}
+use Rattle.machine.proofs.Basics.{update_same, update_other}
+use Rattle.machine.proofs.CommitKeeps.{Fits, counter_new, counter_old, body_new, body_old, new_durable, new_live}
 
 -- What a commit needs of the state it is made in.
 pub record Legal (T : Shape) (S : Scheme) (l : Log) (v : View) (t : Table) (a c : ℕ) (b : Body) : Type 0 where

@@ -3,7 +3,7 @@ use Rattle.std.proofs.Common.{◌≡◌, ℕ, ◌+◌, ◌-◌, ◌^◌, ◌<◌
 use Rattle.std.proofs.lemmas.Bool.{le-leb, lt-ltb, le-ltb, cases_lt, eq-eqb, ne_eqb, lt-leb}
 use Rattle.machine.specs.declared.types.Register.{Register as Fields}
 use Rattle.machine.specs.Layout.{eight_ary, lines_of, every, counter_limit}
-use Rattle.machine.specs.History.{journal_in, roots_valid, map_valid, register_valid}
+use Rattle.machine.specs.History.{journal_in, map_valid, register_valid}
 use Rattle.machine.specs.Words.{row, bit}
 use Rattle.machine.specs.Encoding.{journal_meant, register_meant}
 use Rattle.machine.proofs.Basics.{every_same}

@@ -1,6 +1,6 @@
 -- The worked cases: by computing, but for the two checks of a blank node's line under any suite.
-use Rattle.std.proofs.Common.{◌≡◌, ℕ, zero, suc, ◌+◌, ◌*◌, ◌%◌, ◌≤◌, Bool, true, false, cond, leb, List, [], ◌++◌, drop, sym, refl, ap, ◌∙◌, subst, arith, lit≤}
-use mathlib.Core.Option.{Option, some, none}
+use Rattle.std.proofs.Common.{◌≡◌, ℕ, ◌+◌, true, cond, [], ◌++◌, sym, refl, ap, ◌∙◌, subst, arith}
+use mathlib.Core.Option.{none}
 use Rattle.std.proofs.lemmas.Bool.{and_from}
 use Rattle.std.proofs.lemmas.List.{get_or-drop}
 use Rattle.suite.specs.Scheme.{Body, Line, Scheme, tag_of, right}

@@ -1,5 +1,5 @@
 -- The laws of writes and flushes.
-use Rattle.std.proofs.Common.{◌≡◌, ℕ, zero, suc, ◌+◌, ◌-◌, ◌%◌, ◌<◌, ◌≤◌, Bool, true, false, cond, eqb, ltb, leb, ◌⊎◌, ◌↔◌, List, [], ◌∷◌, ◌++◌, length, sym, refl, ap, ◌∙◌, subst, inl, inr, ⊎_elim, arith}
+use Rattle.std.proofs.Common.{◌≡◌, ℕ, suc, ◌+◌, ◌%◌, ◌<◌, ◌≤◌, Bool, true, false, cond, ltb, ◌⊎◌, ◌↔◌, List, [], ◌∷◌, ◌++◌, length, sym, refl, ap, ◌∙◌, subst, inl, inr, ⊎_elim, arith}
 use mathlib.Core.Option.{Option, some, none}
 use Rattle.std.proofs.lemmas.Bool.{ltb-true, ltb-false, cases_lt}
 use Rattle.std.proofs.lemmas.List.{length-append}
@@ -11,13 +11,13 @@ use Rattle.machine.specs.Faults.{number, Fault, fault, not_data, power_lost}
 use Rattle.machine.specs.Plans.{Slot, Table, is_dirty, View, Run, stop, commit_under, write_at, write_call, flush_call}
 use Rattle.machine.specs.History.{World, Answer, done, refused, power_lost_at, answer_of, chip_of, after, view_of, counter_in, body_in, shape_of, Ran}
 use Rattle.machine.specs.Laws.{Stands, CommitsNext, SameCommit}
-use Rattle.machine.proofs.Invariant.{Durable, SlotsHold, Exact}
+use Rattle.machine.proofs.Invariant.{Exact}
 use Rattle.machine.proofs.Basics.{update_same, some_inj, none≢some}
 use Rattle.machine.proofs.Lines.{tag_low}
 use Rattle.machine.proofs.CommitKeeps.{counter_new, body_new}
-use Rattle.machine.proofs.Trails.{Legal, entry, Trail, end, step, join, widen, OpenHolds, ColdHolds, open_after, after_writes_all, after_writes_some, kept_some}
-use Rattle.machine.proofs.Runs.{Goes, Node, Wrote, short, whole, wrote, flush_goes, flush_ends}
-use Rattle.machine.proofs.Cuts.{after_writes_front, log_front, after_writes_back, log_back, cut_le, cut_lost, answer_done, answer_refused, refused_inj, done≢refused}
+use Rattle.machine.proofs.Trails.{entry, Trail, end, step, join, widen, OpenHolds, open_after, after_writes_all, after_writes_some, kept_some}
+use Rattle.machine.proofs.Runs.{Goes, Wrote, short, whole, wrote, flush_goes, flush_ends}
+use Rattle.machine.proofs.Cuts.{after_writes_front, log_front, after_writes_back, log_back, cut_le, answer_done, answer_refused}
 
 -- Lines committed under neighbouring counters differ.
 pub lines_apart : (T : Shape) (S : Scheme) (a c : ℕ) (b d : Body) → line_at T S a (suc c) b ≡ line_at T S a c d → ⊥

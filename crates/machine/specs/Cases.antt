@@ -1,6 +1,6 @@
 -- Worked cases on the definitions.
-use Rattle.std.specs.Prelude.{◌≡◌, ℕ, ◌+◌, ◌/◌, ◌%◌, ◌^◌, Bool, true, false, List, length, ◌==◌}
-use Rattle.std.proofs.Math.Option.{Option, some, none}
+use Rattle.std.specs.Prelude.{◌≡◌, ℕ, ◌+◌, ◌/◌, ◌%◌, ◌^◌, List, length, ◌==◌}
+use Rattle.std.proofs.Math.Option.{none}
 use Rattle.suite.specs.Scheme.{Body, Scheme, tag_of}
 use Rattle.machine.specs.Layout.{eight_ary, restored, lines_of, update}
 use Rattle.machine.specs.Store.{line_at, Log, commits_in}

@@ -1,5 +1,5 @@
 -- Which lines a call commits, in which order, and what the register and the slots say: over the log alone.
-use Rattle.std.specs.Prelude.{◌≡◌, ℕ, zero, suc, ◌+◌, ◌-◌, ◌<◌, ◌≤◌, Bool, true, false, cond, ◌&&◌, ◌⊎◌, ◌↔◌, List, [], ◌∷◌, ◌++◌, length, ◌==◌, ◌≢◌, nat_lt}
+use Rattle.std.specs.Prelude.{◌≡◌, ℕ, suc, ◌+◌, ◌-◌, ◌<◌, ◌≤◌, cond, ◌&&◌, ◌⊎◌, [], ◌∷◌, ◌++◌, length, ◌==◌, ◌≢◌, nat_lt}
 use Rattle.std.proofs.Math.Option.{Option, some, none}
 use Rattle.suite.specs.Scheme.{Body, Line, Scheme}
 use Rattle.board.specs.Meaning.{Power, endless, writes}

@@ -1,5 +1,5 @@
 -- The register's fields as words, and back.
-use Rattle.std.specs.Prelude.{◌≡◌, ℕ, ◌-◌, ◌^◌, Bool, cond, ◌&&◌, List, [], ◌∷◌, ◌++◌, length, take, drop, replicate, Some, None, Option as Maybe, ◌==◌, nat_le, slice_set}
+use Rattle.std.specs.Prelude.{◌≡◌, ℕ, ◌-◌, ◌^◌, cond, ◌&&◌, List, [], ◌∷◌, ◌++◌, length, take, drop, replicate, Some, None, Option as Maybe, ◌==◌, nat_le, slice_set}
 use Rattle.std.proofs.Math.Option.{Option, some, none}
 use Rattle.machine.specs.declared.types.Register.{Register as Fields}
 use Rattle.machine.specs.declared.types.Journal.{Journal as Entry}

@@ -1,5 +1,5 @@
 -- What the laws speak of: lines that stand, what a call rests on, and commits.
-use Rattle.std.specs.Prelude.{◌≡◌, ℕ, suc, ◌<◌, Bool, true, false, ◌⊎◌, List, [], ◌∷◌, ◌≢◌}
+use Rattle.std.specs.Prelude.{◌≡◌, ℕ, suc, ◌<◌, Bool, true, false, [], ◌∷◌, ◌≢◌}
 use Rattle.suite.specs.Scheme.{Body, Line, Scheme}
 use Rattle.machine.specs.Layout.{Shape}
 use Rattle.machine.specs.Store.{line_at, Log}

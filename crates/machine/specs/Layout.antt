@@ -1,5 +1,5 @@
 -- The tree of counters by its arithmetic, and the few functions on numbers that the definitions use.
-use Rattle.std.specs.Prelude.{◌≡◌, ℕ, zero, suc, ◌+◌, ◌-◌, ◌*◌, ◌/◌, ◌%◌, ◌^◌, ◌<◌, ◌≤◌, Bool, true, false, cond, ◌&&◌, ◌==◌, nat_lt}
+use Rattle.std.specs.Prelude.{◌≡◌, ℕ, zero, suc, ◌+◌, ◌-◌, ◌*◌, ◌/◌, ◌%◌, ◌^◌, ◌<◌, ◌≤◌, Bool, true, cond, ◌&&◌, ◌==◌, nat_lt}
 use Rattle.std.proofs.Math.Option.{Option, some, none}
 
 -- A layout of lines: the data lines come first, then the nodes. The number of all lines is also the address that stands for the root.

@@ -1,6 +1,6 @@
 -- What holds in every history of a board: at every point, and of every event.
-use Rattle.std.specs.Prelude.{◌≡◌, ℕ, zero, suc, ◌<◌, ◌≤◌, Bool, true, false, cond, ◌⊎◌, ◌↔◌, List, [], length, ◌≢◌, nat_lt}
-use Rattle.std.proofs.Math.Option.{Option, some, none}
+use Rattle.std.specs.Prelude.{◌≡◌, ℕ, suc, ◌<◌, ◌≤◌, true, false, cond, ◌⊎◌, ◌↔◌, [], length, ◌≢◌, nat_lt}
+use Rattle.std.proofs.Math.Option.{some, none}
 use Rattle.suite.specs.Scheme.{Body, Line, Scheme}
 use Rattle.board.specs.Meaning.{writes}
 use Rattle.machine.specs.Layout.{Shape, TreeLaws, eight_ary, sixteen_leaves}

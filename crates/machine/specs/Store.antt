@@ -1,6 +1,6 @@
 -- The register, the log of commits, and what is written to a board.
 use Rattle.std.specs.Prelude.{◌≡◌, ℕ, zero, suc, ◌+◌, ◌<◌, ◌≤◌, Bool, cond, List, [], ◌∷◌, ◌++◌, nat_lt}
-use Rattle.std.proofs.Math.Option.{Option, some, none}
+use Rattle.std.proofs.Math.Option.{Option}
 use Rattle.suite.specs.Scheme.{Body, Line, Scheme, data_line, node_line}
 use Rattle.board.specs.Meaning.{Power, endless, writes}
 use Rattle.machine.specs.Layout.{Shape, update}

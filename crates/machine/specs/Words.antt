@@ -1,5 +1,5 @@
 -- What the board's words mean: 32 words as a register, nine words as a line, a board as a whole.
-use Rattle.std.specs.Prelude.{◌≡◌, ℕ, ◌+◌, ◌-◌, ◌*◌, ◌/◌, ◌%◌, ◌^◌, Bool, cond, ◌&&◌, List, [], ◌∷◌, ◌++◌, map, length, take, drop, ◌==◌, nat_le, slice_index, slice_index_or}
+use Rattle.std.specs.Prelude.{ℕ, ◌+◌, ◌-◌, ◌*◌, ◌/◌, ◌%◌, ◌^◌, Bool, cond, ◌&&◌, List, [], ◌∷◌, ◌++◌, map, length, take, drop, ◌==◌, nat_le, slice_index, slice_index_or}
 use Rattle.std.proofs.Math.Option.{Option, some, none}
 use Rattle.suite.specs.Scheme.{Line}
 use Rattle.board.specs.Meaning.{Meaning}

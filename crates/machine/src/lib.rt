@@ -1,4 +1,6 @@
 // The controller by its definitions, what holds in every history of a board, and the register's words.
+#![tactic(auto)]
+
 pub mod counter;
 pub mod register;
 #[cfg(test)]

@@ -1,4 +1,6 @@
 // SipHash-2-4 (Aumasson and Bernstein, 2012) of a message of any length.
+#![tactic(auto)]
+
 mod rounds;
 mod state;
 mod words;

@@ -1,10 +1,10 @@
 -- What the two suites compute, from their keys of 16 bytes.
-use Rattle.std.specs.Prelude.{ℕ, ◌+◌, ◌*◌, ◌/◌, ◌%◌, ◌^◌, List, [], ◌∷◌, ◌++◌, map, take, drop}
+use Rattle.std.specs.Prelude.{ℕ, ◌*◌, ◌/◌, ◌%◌, ◌^◌, List, map, take, drop}
 use Rattle.std.specs.List.{range_with_len}
 use Rattle.sip.specs.Sip.{siphash24, le}
 use Rattle.aes.specs.Aes.{aes128}
 use Rattle.cmac.specs.Cmac.{cmac}
-use Rattle.suite.specs.Scheme.{Body, Scheme}
+use Rattle.suite.specs.Scheme.{Scheme}
 use Rattle.suite.specs.Words.{row}
 use Rattle.suite.specs.Message.{message, pad_block}
 

@@ -1,5 +1,5 @@
 -- How the words and lines that code holds are seen by the definitions, and what opening a line answers.
-use Rattle.std.specs.Prelude.{◌≡◌, ℕ, Bool, cond, List, Some, None, Option as Maybe, slice_index}
+use Rattle.std.specs.Prelude.{◌≡◌, ℕ, cond, List, Some, None, Option as Maybe, slice_index}
 use Rattle.std.proofs.Math.Option.{Option, some, none}
 use Rattle.board.specs.declared.types.Line.{Line as BoardLine}
 use Rattle.suite.specs.Scheme.{Body, Line, Scheme, right, mix}

@@ -1,4 +1,6 @@
 // Suites: macs, pads, tags and sealed lines.
+#![tactic(auto)]
+
 pub mod cmac_suite;
 mod message;
 pub mod sealing;

@@ -1,4 +1,6 @@
 // Reading the inputs of the programs: numbers, keys, prefixes and lines. A text is a slice of bytes.
+#![tactic(auto)]
+
 ghost use Rattle.std.specs.Prelude.{◌≡◌, ℕ, ◌^◌, ◌<◌, ◌≤◌, List, [], ◌∷◌, ◌++◌, length, MatchOption, ◌≢◌, slice_index};
 ghost use Rattle.std.specs.Option.{option_map};
 ghost use Rattle.text.specs.Spelling.{Reads, Behind, Begins, Digit, then_digit, Decimal, Spaced, Numbers, Hex, HexByte, Key, Keys, FirstLine};

@@ -1,5 +1,5 @@
 -- Counters within the limit.
-use Rattle.std.proofs.Common.{◌≡◌, ℕ, ◌<◌, ◌≤◌, Bool, true, false, leb, ◌⊎◌, inl, inr}
+use Rattle.std.proofs.Common.{◌≡◌, ℕ, ◌<◌, ◌≤◌, true, false, leb, ◌⊎◌, inl, inr}
 use Rattle.std.proofs.lemmas.Bool.{cases_Bool, both_ways, le-leb, leb-true}
 use Rattle.machine.specs.Layout.{every, counter_limit}
 use Rattle.machine.proofs.Basics.{every_at, every_from}

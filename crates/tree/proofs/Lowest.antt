@@ -1,6 +1,6 @@
 -- The lowest of the dirty nodes.
 use Rattle.std.proofs.Common.{◌≡◌, ℕ, zero, suc, ◌<◌, ◌≤◌, Bool, true, false, cond, ◌⊎◌, List, get_or, sym, refl, ap, ◌∙◌, inl, inr, arith}
-use mathlib.Core.Option.{Option, some, none}
+use mathlib.Core.Option.{some, none}
 use Rattle.std.proofs.lemmas.Bool.{cases_lt}
 use Rattle.machine.specs.Layout.{eight_ary, lines_of, first, or_last}
 use Rattle.machine.specs.Plans.{is_dirty}

@@ -1,12 +1,11 @@
 -- The dirty map of the slots, one bit at a time.
-use Rattle.std.proofs.Common.{◌≡◌, ℕ, zero, suc, ◌+◌, ◌-◌, ◌*◌, ◌/◌, ◌%◌, ◌^◌, ◌<◌, ◌≤◌, Bool, true, false, cond, ◌&&◌, eqb, leb, ◌⊎◌, List, [], ◌∷◌, length, get_or, set, replicate, sym, refl, ap, ◌∙◌, subst, inl, inr, mul-div_cancel, arith, pow_mono, pow-add}
-use mathlib.Core.Path.{fun_ext}
-use mathlib.Core.Option.{Option, some, none}
-use native.Mathlib.Nat.{zero-div, pow-succ', div_self}
+use Rattle.std.proofs.Common.{◌≡◌, ℕ, zero, suc, ◌+◌, ◌-◌, ◌*◌, ◌/◌, ◌%◌, ◌^◌, ◌<◌, ◌≤◌, Bool, true, false, ◌&&◌, eqb, leb, ◌⊎◌, List, length, get_or, set, replicate, sym, refl, ap, ◌∙◌, inl, inr, mul-div_cancel, arith, pow-add}
+use mathlib.Core.Option.{some}
+use native.Mathlib.Nat.{zero-div, div_self}
 use lib.Bits.{bit_or, or_shr, or_mod, or_zero_r}
 use lib.Pow.{pow-lt}
 use Rattle.std.proofs.lemmas.Nat.{pow_pos, mod_below, div_below, one_shl}
-use Rattle.std.proofs.lemmas.Bool.{eq-eqb, ne_eqb, cases_eq, cases_order, le-leb, lt-leb, cases_lt}
+use Rattle.std.proofs.lemmas.Bool.{cases_eq, cases_order, le-leb, lt-leb, cases_lt}
 use Rattle.std.proofs.lemmas.List.{get_or-set_same, get_or-set_other}
 use Rattle.machine.specs.Layout.{update, lines_of}
 use Rattle.machine.specs.Plans.{Table, is_dirty}
@@ -14,7 +13,6 @@ use Rattle.machine.proofs.Basics.{update_same, update_other}
 use Rattle.tree.proofs.Rows.{table_missing}
 use Rattle.tree.proofs.Sums.{table_grown}
 use Rattle.tree.specs.declared.types.Slot.{Slot}
-use Rattle.suite.specs.Words.{row}
 use Rattle.machine.specs.Words.{bit}
 use Rattle.tree.specs.Tables.{slot_in, no_slot, rows_in}
 use Rattle.tree.specs.SlotTable.{map_in}

@@ -1,5 +1,5 @@
 -- The bits of a dirty map.
-use Rattle.std.specs.Prelude.{◌≡◌, ℕ, ◌*◌, ◌/◌, ◌%◌, ◌^◌, ◌<◌, true, false, cond, List, set, Some, None, Option as Maybe, bit_or, slice_index, slice_set}
+use Rattle.std.specs.Prelude.{◌≡◌, ℕ, ◌*◌, ◌/◌, ◌%◌, ◌^◌, ◌<◌, true, false, cond, List, Some, None, Option as Maybe, bit_or, slice_index, slice_set}
 use Rattle.machine.specs.Layout.{sum_to}
 use Rattle.machine.specs.Words.{bit}
 

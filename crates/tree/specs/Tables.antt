@@ -1,6 +1,6 @@
 -- Slots in a row, as the definitions see them.
 use Rattle.std.specs.Prelude.{ℕ, Bool, cond, List, [], ◌∷◌, take, ◌==◌, nat_le}
-use Rattle.std.proofs.Math.Option.{Option, some, none}
+use Rattle.std.proofs.Math.Option.{some, none}
 use Rattle.suite.specs.Scheme.{Body}
 use Rattle.suite.specs.Words.{row}
 use Rattle.machine.specs.Layout.{every, counter_limit}

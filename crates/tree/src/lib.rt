@@ -1,4 +1,6 @@
 // The tree of counters on the chip: the layout of lines, the dirty map, and the slots of the dirty nodes.
+#![tactic(auto)]
+
 pub mod changes;
 pub mod counters;
 pub mod dirty_map;

@@ -1,3 +1,5 @@
+#![tactic(auto)]
+
 // Published test vectors of AES-128, AES-CMAC and SipHash-2-4, run.
 #[cfg(test)]
 mod tests {

@@ -1,4 +1,4 @@
-use Rattle.std.proofs.Common.{◌≡◌, ℕ, List, ◌++◌, length, ap, ◌∙◌, subst, append-nil, rules}
+use Rattle.std.proofs.Common.{◌≡◌, length, ap, rules}
 use Rattle.std.proofs.lemmas.List.{nil_from_length}
 use Rattle.text.proofs.Hexes.{mac_front, keys_no_pad, keys_more, keys_here}
 use Rattle.text.proofs.keys.Goals as goal

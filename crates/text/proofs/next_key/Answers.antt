@@ -1,4 +1,4 @@
-use Rattle.std.proofs.Common.{◌≡◌, ℕ, ◌<◌, List, length, take, refl, subst, arith, length-set, rules}
+use Rattle.std.proofs.Common.{◌≡◌, ℕ, ◌<◌, List, length, take, subst, arith, length-set}
 use Rattle.std.proofs.lemmas.List.{take_more_set, length-take-le, take_all}
 use Rattle.text.specs.Spelling.{HexByte}
 use Rattle.text.specs.Taking.{Any}

@@ -1,4 +1,4 @@
-use Rattle.std.proofs.Common.{◌≡◌, ℕ, List, [], ◌∷◌, ◌++◌, length, sym, ap, ◌∙◌, rules}
+use Rattle.std.proofs.Common.{◌≡◌, length, ap, rules}
 use Rattle.std.proofs.lemmas.List.{nil_from_length}
 use Rattle.text.proofs.Cuts.{line_cut, line_whole}
 use Rattle.text.proofs.next_line.Goals as goal

@@ -1,4 +1,4 @@
-use Rattle.std.proofs.Common.{◌≡◌, ℕ, ◌+◌, ◌<◌, length, get_or, drop, sym, ap, ◌∙◌, subst, arith, rules, below_more}
+use Rattle.std.proofs.Common.{◌+◌, ◌<◌, length, drop, ap, ◌∙◌, arith, rules, below_more}
 use Rattle.text.specs.Spelling.{read_on}
 use Rattle.text.proofs.Decimals.{read_more, read_none, read_all}
 use Rattle.text.proofs.number.Goals as goal

@@ -1,4 +1,4 @@
-use Rattle.std.proofs.Common.{◌≡◌, ℕ, ◌<◌, ◌≤◌, List, [], length, take, sym, refl, ap, ◌∙◌, subst, inl, arith, length-set, rules}
+use Rattle.std.proofs.Common.{◌≡◌, ℕ, ◌<◌, List, length, take, refl, ap, subst, arith, length-set, rules}
 use Rattle.std.proofs.lemmas.List.{take_more_set, length-take-le, length-replicate, nil_from_length, take_all}
 use Rattle.text.specs.Spelling.{Spaced}
 use Rattle.text.specs.Taking.{Stops}

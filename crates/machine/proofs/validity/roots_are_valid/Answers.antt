@@ -1,5 +1,5 @@
 -- All within the limit, or one above.
-use Rattle.std.proofs.Common.{◌≡◌, ℕ, ◌<◌, ◌≤◌, leb, sym, arith, rules}
+use Rattle.std.proofs.Common.{leb, sym, arith, rules}
 use Rattle.std.proofs.lemmas.Bool.{le-leb, lt-leb}
 use Rattle.machine.specs.Layout.{counter_limit}
 use Rattle.machine.specs.Words.{row}

@@ -1,4 +1,4 @@
-use Rattle.std.proofs.Common.{◌+◌, get_or, sym, refl, ap, ◌∙◌, arith, rules}
+use Rattle.std.proofs.Common.{◌+◌, get_or, ap, ◌∙◌, arith, rules}
 use Rattle.suite.specs.Words.{row}
 use Rattle.tree.proofs.Sums.{sum_none, sum_more}
 use Rattle.tree.proofs.counters.sum_of.Goals as goal

@@ -1,4 +1,4 @@
-use Rattle.std.proofs.Common.{◌≡◌, ℕ, ◌+◌, ◌-◌, ◌*◌, ◌<◌, ◌≤◌, min, false, length, sym, ap, ◌∙◌, arith, rules}
+use Rattle.std.proofs.Common.{◌≡◌, ℕ, ◌+◌, ◌-◌, ◌*◌, ◌<◌, ◌≤◌, min, false, arith}
 use Rattle.machine.specs.Words.{bit}
 use Rattle.tree.proofs.Bits.{bit_past, row_clear, found}
 use Rattle.tree.proofs.dirty_map.highest_below.Goals as goal

@@ -1,4 +1,4 @@
-use Rattle.std.proofs.Common.{◌≡◌, ℕ, ◌%◌, ◌^◌, ◌<◌, sym, ap, ◌∙◌, mod-eq_of_lt, arith, rules}
+use Rattle.std.proofs.Common.{◌≡◌, ◌%◌, ◌^◌, ◌<◌, sym, ap, ◌∙◌, mod-eq_of_lt, arith}
 use Rattle.tree.proofs.Bits.{mask_of, none_below, top_below}
 use Rattle.tree.proofs.dirty_map.top_bit.Goals as goal
 use Rattle.tree.proofs.dirty_map.top_bit.Goals.{then-below-lt64, else-below-lt64}

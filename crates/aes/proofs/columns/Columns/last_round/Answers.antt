@@ -1,4 +1,3 @@
-use Rattle.std.proofs.Common.{◌≡◌}
 use Rattle.aes.proofs.Packed.{last_bytes}
 use Rattle.aes.proofs.columns.Columns.last_round.Goals as goal
 

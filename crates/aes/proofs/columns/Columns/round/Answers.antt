@@ -1,4 +1,3 @@
-use Rattle.std.proofs.Common.{◌≡◌}
 use Rattle.aes.proofs.Packed.{round_bytes}
 use Rattle.aes.proofs.columns.Columns.round.Goals as goal
 

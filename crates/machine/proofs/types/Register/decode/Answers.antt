@@ -1,5 +1,5 @@
 -- The fields mean what the words mean, and give them back.
-use Rattle.std.proofs.Common.{◌≡◌, sym, ap, ◌∙◌}
+use Rattle.std.proofs.Common.{ap, ◌∙◌}
 use Rattle.machine.specs.Words.{words_of}
 use Rattle.machine.specs.Encoding.{register_meant, encoded}
 use Rattle.machine.proofs.Encodings.{again, same_meaning, words_again}

@@ -1,8 +1,7 @@
 -- The words are those of the fields, and give them back.
-use Rattle.std.proofs.Common.{◌≡◌, ℕ, ◌++◌, length, take, drop, Some, None, sym, ap, ◌∙◌, subst, arith, rules}
+use Rattle.std.proofs.Common.{◌≡◌, ◌++◌, length, take, drop, Some, sym, ap, ◌∙◌, subst, rules}
 use Rattle.machine.specs.declared.types.Journal.{Journal as Entry}
-use Rattle.machine.specs.Words.{register_in}
-use Rattle.machine.specs.Encoding.{encoded, decoded, register_meant, with_journal, EightWords}
+use Rattle.machine.specs.Encoding.{decoded, register_meant, with_journal, EightWords}
 use Rattle.machine.proofs.Encodings.{put_is, back, same_meaning}
 use Rattle.machine.proofs.types.Register.encode.Goals as goal
 

@@ -1,5 +1,5 @@
 -- Each part that fails makes the register invalid; past them the journal decides.
-use Rattle.std.proofs.Common.{◌≡◌, ℕ, ◌+◌, ◌-◌, ◌^◌, true, false, sym, ap, ◌∙◌, arith, rules}
+use Rattle.std.proofs.Common.{◌≡◌, ◌+◌, ◌-◌, ◌^◌, sym, ◌∙◌, arith, rules}
 use Rattle.machine.specs.Layout.{lines_of}
 use Rattle.machine.proofs.ValidParts.{not_formatted, too_few_levels, too_many_levels, bad_roots, bad_map, the_rest}
 use Rattle.machine.proofs.types.Register.is_valid.Goals as goal

@@ -1,4 +1,4 @@
-use Rattle.std.proofs.Common.{arith, rules}
+use Rattle.std.proofs.Common.{rules}
 use Rattle.tree.specs.SlotTable.{table_in}
 use Rattle.tree.proofs.Rows.{table_found, table_missing}
 use Rattle.tree.proofs.types.Slots.find.Goals as goal

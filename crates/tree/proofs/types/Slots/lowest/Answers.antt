@@ -1,4 +1,4 @@
-use Rattle.std.proofs.Common.{◌≡◌, arith, rules}
+use Rattle.std.proofs.Common.{arith, rules}
 use Rattle.tree.specs.SlotTable.{table_in}
 use Rattle.tree.proofs.InOrder.{ordered_in}
 use Rattle.tree.proofs.Lowest.{lowest_is}

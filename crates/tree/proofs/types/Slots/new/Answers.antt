@@ -1,4 +1,4 @@
-use Rattle.std.proofs.Common.{arith, rules}
+use Rattle.std.proofs.Common.{arith}
 use mathlib.Core.Path.{fun_ext}
 use Rattle.tree.specs.SlotTable.{table_in}
 use Rattle.tree.proofs.Rows.{table_missing}

@@ -1,10 +1,8 @@
-use Rattle.std.proofs.Common.{◌≡◌, ℕ, ◌<◌, ◌≤◌, true, false, sym, refl, ◌∙◌, rules}
-use mathlib.Core.Option.{none}
-use Rattle.std.proofs.lemmas.Bool.{leb-true, leb-false, both_ways}
+use Rattle.std.proofs.Common.{◌<◌, sym, refl, ◌∙◌}
+use Rattle.std.proofs.lemmas.Bool.{leb-false, both_ways}
 use Rattle.suite.specs.Words.{row}
 use Rattle.tree.specs.Layouts.{shape_in}
 use Rattle.tree.specs.Tables.{all_within}
-use Rattle.tree.specs.SlotTable.{table_in}
 use Rattle.tree.proofs.Fits.{node_parts, not_dirty}
 use Rattle.tree.proofs.Limits.{within_true, within_at}
 use Rattle.tree.proofs.types.Slots.push.Goals as goal

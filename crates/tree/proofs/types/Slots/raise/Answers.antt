@@ -1,5 +1,5 @@
-use Rattle.std.proofs.Common.{◌≡◌, ℕ, ◌^◌, ◌<◌, ◌≤◌, true, false, get_or, sym, refl, ap, ◌∙◌, subst, arith, rules}
-use mathlib.Core.Option.{some, none}
+use Rattle.std.proofs.Common.{◌^◌, ◌<◌, ◌≤◌, get_or, sym, refl, ap, ◌∙◌, subst, arith}
+use mathlib.Core.Option.{some}
 use Rattle.std.proofs.lemmas.Bool.{leb-true, leb-false, both_ways, le-leb, lt-leb}
 use Rattle.suite.specs.Words.{row}
 use Rattle.machine.specs.Layout.{lines_of, counter_limit, update}

@@ -1,4 +1,4 @@
-use Rattle.std.proofs.Common.{◌≡◌, ◌-◌, sym, refl, ap, arith, rules}
+use Rattle.std.proofs.Common.{◌-◌, sym, refl, ap, arith}
 use Rattle.machine.specs.Plans.{is_dirty, slot_counters}
 use Rattle.tree.specs.SlotTable.{table_in}
 use Rattle.tree.proofs.InOrder.{ordered_in, ordered_out, table_out}
