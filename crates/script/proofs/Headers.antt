@@ -1,10 +1,10 @@
 -- Reading a header field by field.
-use Rattle.std.proofs.Common.{◌≡◌, ℕ, List, [], ◌∷◌, IsErrAnd, Some, None, Ok, Err, codes, Option, Result, sym, refl, ap, ◌∙◌, subst, Bor}
+use Rattle.std.proofs.Common.{◌≡◌, ℕ, List, ◌∷◌, IsErrAnd, Some, None, Err, codes, Option, Result, sym, ap, ◌∙◌, subst, Bor}
 use Rattle.std.proofs.lemmas.Result.{err_from_is_err_and}
 use Rattle.std.specs.Option.{option_map, ok_or}
 use Rattle.text.specs.Spelling.{Reads, After, Decimal, Keys, FirstLine, lines_of}
 use Rattle.text.specs.declared.types.KeyPair.{KeyPair}
-use Rattle.script.specs.Script.{Limit, SuiteLine, Outcome, Field, Complete, HeaderRead}
+use Rattle.script.specs.Script.{Limit, SuiteLine, Outcome, Field, Complete}
 use Rattle.script.specs.declared.types.Header.{Header}
 
 -- where a `?` left the function

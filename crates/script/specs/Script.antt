@@ -3,7 +3,6 @@ use Rattle.std.specs.Prelude.{◌≡◌, ℕ, ◌<◌, List, [], ◌∷◌, ◌+
 use Rattle.std.specs.Borrow.{Bor}
 use Rattle.text.specs.Spelling.{Reads, After, Decimal, Numbers, Keys, lines_of}
 use Rattle.text.specs.Writing.{row}
-use Rattle.text.specs.declared.types.KeyPair.{KeyPair}
 use Rattle.script.specs.declared.types.Header.{Header}
 use Rattle.script.specs.declared.types.Step.{Step}
 use Rattle.script.specs.declared.types.Step.TheVariants.{Read, Write, Flush, Restart, Recharge, Copy, Put}

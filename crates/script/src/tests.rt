@@ -80,7 +80,7 @@ fn headers(rt: HostRuntime) -> Result<(), Fail> {
             assert_eq!(rt; header.keys.mac[15], 15);
             assert_eq!(rt; header.keys.pad[15], 31);
             assert_eq!(rt; header.fuse, None);
-            assert_eq!(rt; rest, b"step=s");
+            assert_eq!(rt; rest, b"step=s".as_slice());
             Ok(())
         }
         Err(_) => Err(Fail::new("a header was not read")),

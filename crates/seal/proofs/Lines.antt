@@ -4,7 +4,6 @@ use Rattle.std.proofs.lemmas.List.{append_cancel_left, take_more, take_all, get_
 use Rattle.text.specs.Spelling.{Reads, Numbers}
 use Rattle.seal.specs.Items.{letter, Head, Asked, ItemLine}
 use Rattle.seal.specs.declared.types.Kind.{Kind}
-use Rattle.seal.specs.declared.types.Kind.TheVariants.{Data, Node}
 use Rattle.seal.specs.declared.types.Item.{Item}
 use Rattle.seal.specs.declared.types.Item.TheVariants.{Seal, Open}
 

@@ -1,14 +1,13 @@
 -- For each input the program prints one text.
-use Rattle.std.proofs.Common.{◌≡◌, ℕ, ◌+◌, List, [], ◌∷◌, ◌++◌, length, get_or, Some, None, codes, Option, sym, refl, ap, ◌∙◌, subst, arith, MatchOption}
-use mathlib.Core.Option.{some, none}
+use Rattle.std.proofs.Common.{◌≡◌, ℕ, ◌+◌, List, [], ◌∷◌, ◌++◌, length, Some, None, codes, Option, sym, refl, ap, ◌∙◌, subst, arith, MatchOption}
+use mathlib.Core.Option.{some}
 use Rattle.std.proofs.lemmas.List.{append_cancel_left, same_from_push, ext_get_or}
 use Rattle.board.specs.declared.types.Line.{Line as BoardLine}
 use Rattle.suite.specs.Scheme.{Line, Scheme}
-use Rattle.suite.specs.Words.{row as words-in, line_in}
-use Rattle.text.specs.Spelling.{Reads, Unambiguous, After, Decimal, Numbers, Keys}
-use Rattle.text.proofs.Single.{decimal_once, numbers_once, keys_once, after_once, reads_once}
-use Rattle.text.specs.declared.types.KeyPair.{KeyPair}
-use Rattle.seal.specs.Items.{letter, Head, Asked, ItemLine, number_of, SuiteLine, KeyLine}
+use Rattle.suite.specs.Words.{row as words_in, line_in}
+use Rattle.text.specs.Spelling.{Reads, Unambiguous, Decimal, Numbers, Keys}
+use Rattle.text.proofs.Single.{decimal_once, numbers_once, keys_once, after_once}
+use Rattle.seal.specs.Items.{letter, Asked, ItemLine, number_of, SuiteLine, KeyLine}
 use Rattle.seal.specs.Answered.{Answered, answer_text, bad, Rows, scheme_of, Keyed, Printed, Single}
 use Rattle.seal.specs.declared.types.Kind.{Kind}
 use Rattle.seal.specs.declared.types.Kind.TheVariants.{Data, Node}
@@ -68,7 +67,7 @@ key_once : Unambiguous KeyLine
 key_once = after_once (codes "key=") Keys keys_once
 
 -- eight words are what they are as a function of their place
-words_same : (ws vs : List ℕ) → length ws ≡ 8 → length vs ≡ 8 → words-in ws ≡ words-in vs → ws ≡ vs
+words_same : (ws vs : List ℕ) → length ws ≡ 8 → length vs ≡ 8 → words_in ws ≡ words_in vs → ws ≡ vs
 words_same ws vs m n e = ext_get_or 0 ws vs (m ∙ sym n) (λ i _. ap (λ (f : ℕ → ℕ). f i) e)
 
 line_same : (l m : BoardLine) → length l.body ≡ 8 → length m.body ≡ 8 → line_in l ≡ line_in m → l ≡ m
@@ -87,8 +86,8 @@ answer_once S (Seal k a c b) Corrupt y h w = absurd h
 answer_once S (Open k a c l) (Sealed m) y h w = absurd h
 answer_once S (Open k a c l) (Opened u) (Sealed m) h w = absurd w
 answer_once S (Open k a c l) (Opened u) (Opened v) h w =
-    let e : some (words-in u) ≡ some (words-in v) = sym h.1 ∙ w.1 in
-    let f : words-in u ≡ words-in v = cc in
+    let e : some (words_in u) ≡ some (words_in v) = sym h.1 ∙ w.1 in
+    let f : words_in u ≡ words_in v = cc in
     ap Opened (words_same u v h.0 w.0 f)
 answer_once S (Open k a c l) (Opened u) Corrupt h w = let e = h.1 in let z : ◌≡◌ {A = ℕ} 0 1 = cc in let y : ⊥ = omega arith in absurd y
 answer_once S (Open k a c l) Corrupt (Sealed m) h w = absurd w

@@ -2,7 +2,7 @@
 use Rattle.std.specs.Prelude.{◌≡◌, ℕ, ◌+◌, List, [], ◌∷◌, ◌++◌, length, Ok, Err, codes, decimal, Option, Result, MatchOption}
 use Rattle.std.proofs.Math.Option.{Option as Maybe, some, none}
 use Rattle.suite.specs.Scheme.{Body, Line, Scheme, data_line, node_line}
-use Rattle.suite.specs.Words.{row as words-in, line_in, open_data, open_node}
+use Rattle.suite.specs.Words.{row as words_in, line_in, open_data, open_node}
 use Rattle.suite.specs.Suites.{sip_scheme, cmac_scheme}
 use Rattle.std.specs.Borrow.{Bor}
 use Rattle.text.specs.Spelling.{Reads, lines_of}
@@ -30,11 +30,11 @@ body_of S Node = open_node S
 
 -- The right answer to an item. A body has eight words.
 abbrev pub Answered : Scheme → Item → Answer → Type 0
-Answered S (Seal k a c b) (Sealed l) = (length l.body ≡ 8) × (line_in l ≡ line_of S k a c (words-in b))
+Answered S (Seal k a c b) (Sealed l) = (length l.body ≡ 8) × (line_in l ≡ line_of S k a c (words_in b))
 Answered S (Seal k a c b) (Opened ws) = ⊥
 Answered S (Seal k a c b) Corrupt = ⊥
 Answered S (Open k a c l) (Sealed m) = ⊥
-Answered S (Open k a c l) (Opened ws) = (length ws ≡ 8) × (body_of S k a c (line_in l) ≡ some (words-in ws))
+Answered S (Open k a c l) (Opened ws) = (length ws ≡ 8) × (body_of S k a c (line_in l) ≡ some (words_in ws))
 Answered S (Open k a c l) Corrupt = body_of S k a c (line_in l) ≡ none
 
 -- What is printed of an answer: the nine words of a line, the eight of a body, or a word for a corrupt line.

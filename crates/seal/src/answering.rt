@@ -1,5 +1,5 @@
 ghost use Rattle.std.specs.Prelude.{◌≡◌};
-ghost use Rattle.suite.specs.Words.{row as words-in, line_in, Answers};
+ghost use Rattle.suite.specs.Words.{row as words_in, line_in, Answers};
 ghost use Rattle.seal.specs.Answered.{line_of, body_of, Answered};
 
 use crate::types::{Answer, Item, Kind};
@@ -9,7 +9,7 @@ use suite::suite::Suite;
 
 // The line that the suite makes of words.
 fn sealed<S: Suite>(suite: &S, kind: Kind, at: u64, counter: u64, body: &[u64; 8]) -> Line
-    ensures { line_in result ≡ line_of (S.Suite.scheme suite.now) kind at counter (words-in body.now) }
+    ensures { line_in result ≡ line_of (S.Suite.scheme suite.now) kind at counter (words_in body.now) }
 {
     match kind {
         Kind::Data => seal_data(suite, at, counter, body),

@@ -1,4 +1,6 @@
 // Seals and opens lines from a list of items on the standard input.
+#![tactic(auto)]
+
 mod answering;
 mod printing;
 mod reading;

@@ -17,7 +17,8 @@ use text::types::KeyPair;
 fn print_bad(number: u64, out: &mut String) -> fmt::Result
     ensures { OnOk result (string_bytes out.new ≡ string_bytes out.old ++ bad number) }
 {
-    writeln!(out, "bad={number}")
+    writeln!(out, "bad={number}")?;
+    Ok(())
 }
 
 // Adds what is printed for the lines behind the two of the header.

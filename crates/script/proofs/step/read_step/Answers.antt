@@ -1,4 +1,3 @@
-use Rattle.std.proofs.Common.{rules}
 use Rattle.script.proofs.Steps.{step_once, no_letter, step_read}
 use Rattle.script.proofs.step.read_step.Goals as goal
 

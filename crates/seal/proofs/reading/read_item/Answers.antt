@@ -1,4 +1,3 @@
-use Rattle.std.proofs.Common.{sym, subst}
 use Rattle.seal.proofs.Lines.{none_sealed, none_opened, none_headed, seal_words, open_words}
 use Rattle.seal.proofs.reading.read_item.Goals as goal
 

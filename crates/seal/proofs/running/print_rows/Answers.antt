@@ -16,7 +16,7 @@ loop-line-smaller g c = line_shorter _ _ _ c.in-Some.ensures
 pub loop-line-preserved : goal.loop-line-preserved
 loop-line-preserved g c =
     let shorter : length c.in-Some.behind.now < length c.loop-line.rest.now = line_shorter _ _ _ c.in-Some.ensures in (
-      rows_more (g.S.Suite.scheme c.args.suite.now) c.args.text.now c.loop-line.rest.now c.loop-line.number (string_bytes c.args.out.now) (string_bytes c.loop-line.out) c.loop-line.invariant.0 _ _ c.in-Some.ensures _ _ _ c.in-Some-read_item.ensures c.answer-reply.ensures c.in_ok-writeln.ensures.bytes,
+      rows_more (g.S.Suite.scheme c.args.suite.now) c.args.text.now c.loop-line.rest.now c.loop-line.number (string_bytes c.args.out.now) (string_bytes c.loop-line.out) c.loop-line.invariant.0 _ _ c.in-Some.ensures _ _ (string_bytes c.writeln.new.self) c.in-Some-read_item.ensures c.answer-reply.ensures c.in_ok-writeln.ensures.bytes,
       omega (arith, c.loop-line.invariant.1),
     )
 
