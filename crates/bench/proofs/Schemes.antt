@@ -1,6 +1,5 @@
 -- The scheme of a header.
-use Rattle.std.proofs.Common.{◌≡◌, ℕ, Bool, true, false, cond, eqb, List, sym, refl, ap, ◌∙◌, eq-eqb}
-use Rattle.suite.specs.Scheme.{Scheme}
+use Rattle.std.proofs.Common.{◌≡◌, ℕ, Bool, false, cond, eqb, List, sym, ap, ◌∙◌, eq-eqb}
 use Rattle.suite.specs.Suites.{sip_scheme, cmac_scheme}
 use Rattle.script.specs.declared.types.Header.{Header}
 use Rattle.bench.specs.Printed.{scheme_of}

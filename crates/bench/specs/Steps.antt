@@ -1,5 +1,5 @@
 -- What the steps of a script ask of the board.
-use Rattle.std.specs.Prelude.{ℕ, cond, List, [], ◌∷◌, length, Some, None, Option, nat_lt, slice_index_or}
+use Rattle.std.specs.Prelude.{ℕ, cond, [], ◌∷◌, length, Some, None, Option, nat_lt, slice_index_or}
 use Rattle.board.specs.Meaning.{Meaning}
 use Rattle.board.specs.declared.types.Line.{Line}
 use Rattle.machine.specs.Words.{no_line}

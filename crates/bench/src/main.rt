@@ -1,4 +1,6 @@
 // Runs a script of steps on a board of memory, and prints a row for each.
+#![tactic(auto)]
+
 mod events;
 mod playing;
 mod rows;

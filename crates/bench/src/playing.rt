@@ -18,7 +18,7 @@ use controller::open::Open;
 use controller::types::Fault;
 use script::step::read_step;
 use script::types::Header;
-use std::alloc::AllocError;
+use std::fmt;
 use suite::suite::Suite;
 use text::next_line;
 
@@ -38,7 +38,7 @@ fn play<B: Tamper + Recharge, S: Suite + Copy>(
 }
 
 // Adds what is printed where the line of a step is unreadable: five lines stand before the steps.
-fn print_bad_step(step: u64, out: &mut String) -> Result<(), AllocError>
+fn print_bad_step(step: u64, out: &mut String) -> fmt::Result
     requires { step + 5 < 2 ^ 64 }
     ensures { OnOk result (string_bytes out.new ≡ string_bytes out.old ++ bad (step + 5)) }
 {
@@ -51,7 +51,7 @@ fn play_steps<B: Tamper + Recharge, S: Suite + Copy>(
     slots: u64,
     text: &[u8],
     out: &mut String,
-) -> (Open<B, S>, Result<(), AllocError>)
+) -> (Open<B, S>, fmt::Result)
     ensures { OnOk result.1 (Adds (Rows (S.Suite.scheme opened.suite) slots 1 (lines_of text.now) (B.Board.meaning opened.board) opened.chip None) (string_bytes out.old) (string_bytes out.new)) }
 {
     let mut open = opened;
@@ -68,7 +68,7 @@ fn play_steps<B: Tamper + Recharge, S: Suite + Copy>(
         copy = kept;
         let row = row_of(number, &reply, &open.board().read_register());
         if let Err(e) = writeln!(out, "{row}") {
-            return (open, Err(e));
+            return (open, Err(e.into()));
         }
         number += 1;
         rest = behind;
@@ -104,7 +104,7 @@ fn print_table<B: Tamper + Recharge, S: Suite + Copy>(
     header: &Header,
     text: &[u8],
     out: &mut String,
-) -> (Open<B, S>, Result<(), AllocError>)
+) -> (Open<B, S>, fmt::Result)
     ensures { OnOk result.1 (Adds (Table (S.Suite.scheme opened.suite) header.now (lines_of text.now) outcome (B.Board.meaning opened.board) opened.chip) (string_bytes out.old) (string_bytes out.new)) }
 {
     if let Err(e) = print_head(outcome, header.levels, out) {
@@ -120,7 +120,7 @@ pub(crate) fn play_script<B: Tamper + Recharge, S: Suite + Copy>(
     header: &Header,
     text: &[u8],
     out: &mut String,
-) -> (B, Result<(), AllocError>)
+) -> (B, fmt::Result)
     ensures { OnOk result.1 (Adds (Run (S.Suite.scheme suite) header.now (lines_of text.now) (B.Board.meaning board)) (string_bytes out.old) (string_bytes out.new)) }
 {
     let mut cold = Cold::new(board);

@@ -5,7 +5,7 @@ ghost use Rattle.bench.specs.Rows.{row_of, result_of, lines_needed, made_text, h
 use controller::event::Reply;
 use controller::types::Fault;
 use script::types::Row;
-use std::alloc::AllocError;
+use std::fmt;
 use tree::dirty_map::{dirty_nodes, map_of};
 use tree::types::Layout;
 
@@ -58,17 +58,18 @@ fn lines_needed(levels: u64) -> u64
 }
 
 // Adds the head of the table, with these numbers above it.
-fn print_made(answer: u64, lines: u64, out: &mut String) -> Result<(), AllocError>
+fn print_made(answer: u64, lines: u64, out: &mut String) -> fmt::Result
     ensures { OnOk result (string_bytes out.new ≡ string_bytes out.old ++ made_text answer lines) }
 {
     writeln!(
         out,
         "made={answer} lines={lines}\nstep result layer at value commits ahead total"
-    )
+    )?;
+    Ok(())
 }
 
 // Adds what is printed of format, and the head of the table.
-pub(crate) fn print_head(outcome: Result<(), Fault>, levels: u64, out: &mut String) -> Result<(), AllocError>
+pub(crate) fn print_head(outcome: Result<(), Fault>, levels: u64, out: &mut String) -> fmt::Result
     ensures { OnOk result (string_bytes out.new ≡ string_bytes out.old ++ head_text outcome levels) }
 {
     print_made(result_of(outcome), lines_needed(levels), out)?;
@@ -76,8 +77,9 @@ pub(crate) fn print_head(outcome: Result<(), Fault>, levels: u64, out: &mut Stri
 }
 
 // Adds what is printed at an unreadable line.
-pub(crate) fn print_bad(line: u64, out: &mut String) -> Result<(), AllocError>
+pub(crate) fn print_bad(line: u64, out: &mut String) -> fmt::Result
     ensures { OnOk result (string_bytes out.new ≡ string_bytes out.old ++ bad line) }
 {
-    writeln!(out, "bad={line}")
+    writeln!(out, "bad={line}")?;
+    Ok(())
 }

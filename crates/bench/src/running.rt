@@ -10,7 +10,7 @@ use board::memory::Memory;
 use script::header::read_header;
 use script::types::Header;
 use std::alloc::Global;
-use std::alloc::AllocError;
+use std::fmt;
 use suite::cmac_suite::CmacSuite;
 use suite::sip_suite::SipSuite;
 use suite::suite::Suite;
@@ -37,7 +37,7 @@ fn play_on_memory<S: Suite + Copy>(
     text: &[u8],
     words: &mut [u64],
     out: &mut String,
-) -> Result<(), AllocError>
+) -> fmt::Result
     ensures { OnOk result (Adds (Run (S.Suite.scheme suite) header.now (lines_of text.now) (on_memory words.old header.now.fuse)) (string_bytes out.old) (string_bytes out.new)) }
 {
     let board = fused_memory(words, header.fuse);
@@ -46,7 +46,7 @@ fn play_on_memory<S: Suite + Copy>(
 }
 
 // The same under the suite and the keys of the header.
-fn play_header(header: &Header, text: &[u8], words: &mut [u64], out: &mut String) -> Result<(), AllocError>
+fn play_header(header: &Header, text: &[u8], words: &mut [u64], out: &mut String) -> fmt::Result
     ensures { OnOk result (Adds (Run (scheme_of header.now) header.now (lines_of text.now) (on_memory words.old header.now.fuse)) (string_bytes out.old) (string_bytes out.new)) }
 {
     let keys = header.keys;
@@ -63,7 +63,7 @@ fn play_header(header: &Header, text: &[u8], words: &mut [u64], out: &mut String
 }
 
 // Adds what is printed for the whole input.
-fn print_all(input: &[u8], out: &mut String) -> Result<(), AllocError>
+fn print_all(input: &[u8], out: &mut String) -> fmt::Result
     ensures { OnOk result (Adds (Printed (lines_of input.now)) (string_bytes out.old) (string_bytes out.new)) }
 {
     match read_header(input, &SUITES) {
@@ -76,7 +76,7 @@ fn print_all(input: &[u8], out: &mut String) -> Result<(), AllocError>
 }
 
 // What the program prints for an input.
-pub(crate) fn transcript(heap: Global, input: &[u8]) -> Result<String, AllocError>
+pub(crate) fn transcript(heap: Global, input: &[u8]) -> Result<String, fmt::Error>
     ensures { IfOk result (λ s. Printed (lines_of input.now) (string_bytes s)) }
 {
     let mut out = String::new(heap);

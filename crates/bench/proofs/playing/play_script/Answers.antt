@@ -1,4 +1,4 @@
-use Rattle.std.proofs.Common.{ap, subst}
+use Rattle.std.proofs.Common.{subst}
 use Rattle.controller.specs.Worlds.{cold_in, report_by, Keeps, Formats}
 use Rattle.machine.specs.History.{format}
 use Rattle.std.proofs.lemmas.Result.{IfOk-weaker}
