@@ -1,7 +1,9 @@
 -- The rounds and the round keys on columns, step by step as the loops take them.
-use Rattle.std.proofs.Common.{◌≡◌, ℕ, ◌+◌, ◌<◌, ◌≢◌, List, [], map, length, get_or, set, sym, refl, ap, ◌∙◌, add-one, arith, below_more}
-use Rattle.std.proofs.lemmas.List.{get_or-map, map-set, length-map, get_or-set_same, get_or-set_other}
+use Rattle.std.proofs.Common.{◌≡◌, ℕ, zero, suc, ◌+◌, ◌<◌, ◌≤◌, List, [], map, length, get_or, sym, refl, ap, ap₂, ◌∙◌, subst, inl, inr, eq-or-lt_of_le, add-one, arith}
+use Rattle.std.proofs.lemmas.List.{get_or-map, length-map}
 use Rattle.std.proofs.lemmas.List.FromFn.{fill_by_all, get_or-map-range_with_len}
+use denote.Param.Members.{Mut, Called}
+use Rattle.std.specs.Array.{IsFromFnResultFrom, IsFromFnResult}
 use Rattle.aes.specs.Field.{times}
 use Rattle.aes.specs.Aes.{after, round, xor_blocks, rcon, round_key, round_keys, next_key}
 use Rattle.aes.specs.Columns.{unpack}
@@ -15,19 +17,24 @@ pub round_key_more : (key : List ℕ) (i : ℕ) → round_key key (i + 1) ≡ ne
 unfolding round_key
 round_key_more key i = ap (round_key key) (add-one i)
 
--- One round key more.
-pub keys_more : (key : List ℕ) (ks : List Columns) (i : ℕ) (x : Columns) → i < length ks → unpack x ≡ round_key key (i + 1) → ((j : ℕ) → j < i → get_or (map unpack ks) j [] ≡ round_key key (j + 1)) → (j : ℕ) → j < i + 1 → get_or (map unpack (set ks i x)) j [] ≡ round_key key (j + 1)
-keys_more key ks i x lt e inv =
-    let n : i < length (map unpack ks) = simp length-map lt in
-    rw map-set
-    (below_more _ _
-    (λ j h. let ne : j ≢ i = omega arith in rw get_or-set_other (inv j h))
-    (rw get_or-set_same e))
+-- The round keys that a closure gives, where each call makes the next one from the last one and its constant.
+keys_from : {F : Type 0} (g : Mut F (ℕ × Unit {0}) Columns) (last : F → Columns) (constant : F → ℕ) (step : (f : F) (i : ℕ) (y : Columns) (q : F) → Called g f (i, tt) y q → (unpack y ≡ next_key (constant f) (unpack (last f))) × (last q ≡ y) × (constant q ≡ times (constant f) 2)) (key : List ℕ) (ks : List Columns) (n : ℕ) (f : F) (i : ℕ) → unpack (last f) ≡ round_key key i → constant f ≡ rcon i → i + n ≤ length ks → IsFromFnResultFrom g f ks i n → (j : ℕ) → i ≤ j → j < i + n → get_or (map unpack ks) j [] ≡ round_key key (j + 1)
+keys_from g last constant step key ks zero f i e k len h j le lt = absurd (omega arith)
+keys_from g last constant step key ks (suc n) f i e k len (q, y, at, called, more) j le lt =
+    let s = step f i y q called in
+    let here : unpack y ≡ round_key key (i + 1) = s.0 ∙ ap₂ next_key k e ∙ sym (round_key_more key i) in
+    let made : get_or (map unpack ks) i [] ≡ round_key key (i + 1) = get_or-map unpack ks i y [] (omega arith) ∙ ap unpack (at.1 y) ∙ here in
+    let next : constant q ≡ rcon (i + 1) = s.2 ∙ ap (λ (c : ℕ). times c 2) k ∙ sym (rcon_more i) in
+    elim (eq-or-lt_of_le le) as (λ _. get_or (map unpack ks) j [] ≡ round_key key (j + 1)) [
+      | inl same ↦ subst (λ (m : ℕ). get_or (map unpack ks) m [] ≡ round_key key (m + 1)) same made
+      | inr above ↦ keys_from g last constant step key ks n q (i + 1) (ap unpack s.1 ∙ here) next (omega arith) more j (omega arith) (omega arith)
+    ]
 
--- All of them.
-pub keys_all : (key : List ℕ) (ks : List Columns) (i : ℕ) → length ks ≡ 10 → i ≡ 10 → ((j : ℕ) → j < i → get_or (map unpack ks) j [] ≡ round_key key (j + 1)) → map unpack ks ≡ round_keys key
-unfolding round_keys
-keys_all key ks i len n inv = fill_by_all (λ j. round_key key (j + 1)) (map unpack ks) 10 [] (simp length-map len) (λ j h. inv j (omega arith))
+pub keys_made : {F : Type 0} (g : Mut F (ℕ × Unit {0}) Columns) (last : F → Columns) (constant : F → ℕ) (step : (f : F) (i : ℕ) (y : Columns) (q : F) → Called g f (i, tt) y q → (unpack y ≡ next_key (constant f) (unpack (last f))) × (last q ≡ y) × (constant q ≡ times (constant f) 2)) (key : List ℕ) (ks : List Columns) (f : F) → unpack (last f) ≡ key → constant f ≡ 1 → IsFromFnResult g f ks 10 → map unpack ks ≡ round_keys key
+unfolding round_keys round_key rcon
+keys_made g last constant step key ks f e k h =
+    fill_by_all (λ j. round_key key (j + 1)) (map unpack ks) 10 [] (simp length-map h.long)
+    (λ j lt. keys_from g last constant step key ks 10 f 0 e k (omega (arith, h.long)) h.each j (omega arith) (omega arith))
 
 -- Round key i + 1, where the expanded key has it.
 pub key_at : (key : List ℕ) (ks : List Columns) (i : ℕ) (d : Columns) → length ks ≡ 10 → map unpack ks ≡ round_keys key → i < 10 → unpack (get_or ks i d) ≡ round_key key (i + 1)

@@ -1,10 +1,11 @@
 -- Columns of four bytes: exclusive or, turns by whole bytes, and the rounds.
-use Rattle.std.proofs.Common.{◌≡◌, ℕ, ◌+◌, ◌*◌, ◌/◌, ◌%◌, ◌<◌, List, [], ◌∷◌, ◌++◌, length, get_or, sym, refl, ap, ◌∙◌, arith}
-use lib.Bits.{bit_or, bit_xor, xor_block, xor_lt, xor_shr, xor_mod, xor_assoc, xor_comm, or_shifted_r}
+use Rattle.std.proofs.Common.{◌≡◌, ℕ, ◌+◌, ◌*◌, ◌/◌, ◌%◌, ◌<◌, List, [], ◌∷◌, ◌++◌, length, get_or, sym, refl, ap, ap₂, ◌∙◌, arith}
+use lib.Bits.{bit_or, bit_xor, xor_block, xor_lt, xor_shr, xor_mod, xor_assoc, xor_comm, xor_zero_r, or_shifted_r}
 use Rattle.std.proofs.lemmas.List.FromFn.{fill_by_all}
+use Rattle.std.specs.Simd.{first_chunks}
 use Rattle.aes.specs.Field.{sbox, times}
-use Rattle.aes.specs.Aes.{mixed, round, last_round, xor_blocks, mix_columns, shift_rows, sub_bytes}
-use Rattle.aes.specs.Columns.{word4, bytes4, unpack, spread, spread_of, mixed_word, sub_word, rows_of, mixed_columns, sub_columns}
+use Rattle.aes.specs.Aes.{mixed, next_key, round, last_round, xor_blocks, mix_columns, shift_rows, sub_bytes}
+use Rattle.aes.specs.Columns.{word4, bytes4, unpack, spread, spread_of, mixed_word, sub_word, rows_of, shifted_by, mixed_columns, sub_columns}
 use Rattle.aes.specs.declared.columns.Columns.{Columns}
 use Rattle.aes.proofs.Products.{sbox_lt, two_lt, three_lt}
 
@@ -131,30 +132,28 @@ sub_state s =
     join4 (sub_at s.c0 s.c1 s.c2 s.c3) (sub_at s.c1 s.c2 s.c3 s.c0)
     (sub_at s.c2 s.c3 s.c0 s.c1) (sub_at s.c3 s.c0 s.c1 s.c2)
 
-pub round_bytes : (s k m t : Columns) → m ≡ mixed_columns s → unpack t ≡ xor_blocks (unpack m) (unpack k) → unpack t ≡ round (unpack s) (unpack k)
-unfolding round
-round_bytes s k m t e f = f ∙ ap (λ (x : List ℕ). xor_blocks x (unpack k)) (ap unpack e ∙ mixed_state s)
+-- m is s by a function of four bytes, column by column
+abbrev ShiftedBy : (ℕ → ℕ → ℕ → ℕ → ℕ) → Columns → Columns → Type 0
+ShiftedBy f s m = (m.c0 ≡ rows_of f s.c0 s.c1 s.c2 s.c3) × (m.c1 ≡ rows_of f s.c1 s.c2 s.c3 s.c0) × (m.c2 ≡ rows_of f s.c2 s.c3 s.c0 s.c1) × (m.c3 ≡ rows_of f s.c3 s.c0 s.c1 s.c2)
 
-pub last_bytes : (s k m t : Columns) → m ≡ sub_columns s → unpack t ≡ xor_blocks (unpack m) (unpack k) → unpack t ≡ last_round (unpack s) (unpack k)
+same_columns : {a b c d a' b' c' d' : ℕ} → a ≡ a' → b ≡ b' → c ≡ c' → d ≡ d' → ◌≡◌ {A = Columns} (record { c0 = a; c1 = b; c2 = c; c3 = d }) (record { c0 = a'; c1 = b'; c2 = c'; c3 = d' })
+same_columns p q r s = cc
+
+shifted_is : (f : ℕ → ℕ → ℕ → ℕ → ℕ) (s m : Columns) → ShiftedBy f s m → m ≡ shifted_by f s
+shifted_is f s m (e0, e1, e2, e3) = same_columns e0 e1 e2 e3
+
+pub round_bytes : (s k m t : Columns) → ShiftedBy mixed_word s m → unpack t ≡ xor_blocks (unpack m) (unpack k) → unpack t ≡ round (unpack s) (unpack k)
+unfolding round
+round_bytes s k m t e f = f ∙ ap (λ (x : List ℕ). xor_blocks x (unpack k)) (ap unpack (shifted_is mixed_word s m e) ∙ mixed_state s)
+
+pub last_bytes : (s k m t : Columns) → ShiftedBy sub_word s m → unpack t ≡ xor_blocks (unpack m) (unpack k) → unpack t ≡ last_round (unpack s) (unpack k)
 unfolding last_round
-last_bytes s k m t e f = f ∙ ap (λ (x : List ℕ). xor_blocks x (unpack k)) (ap unpack e ∙ sub_state s)
+last_bytes s k m t e f = f ∙ ap (λ (x : List ℕ). xor_blocks x (unpack k)) (ap unpack (shifted_is sub_word s m e) ∙ sub_state s)
 
 -- What the functions on columns compute, from what their calls ensure.
 
-pub spread_at : (xs : List ℕ) (i w x : ℕ) → xs ≡ bytes4 w → x ≡ spread (get_or xs i 0) → x ≡ spread (get_or (bytes4 w) i 0)
-spread_at xs i w x e h = cc
-
-pub sbox_at : (xs : List ℕ) (i w x : ℕ) → xs ≡ bytes4 w → x ≡ sbox (get_or xs i 0) → x ≡ sbox (get_or (bytes4 w) i 0)
-sbox_at xs i w x e h = cc
-
-pub from_table : (a b c d x0 x1 x2 x3 y1 y2 y3 : ℕ) → x0 ≡ spread (a / 16777216 % 256) → x1 ≡ spread (b / 65536 % 256) → x2 ≡ spread (c / 256 % 256) → x3 ≡ spread (d % 256) → y1 ≡ ror x1 256 16777216 → y2 ≡ ror x2 65536 65536 → y3 ≡ ror x3 16777216 256 → bit_xor (bit_xor x0 y1) (bit_xor y2 y3) ≡ rows_of mixed_word a b c d
-from_table a b c d x0 x1 x2 x3 y1 y2 y3 e0 e1 e2 e3 r1 r2 r3 =
-    let h = lt4 a b c d in
-    cc (mixed_from_table (a / 16777216 % 256) (b / 65536 % 256) (c / 256 % 256) (d % 256) h.0 h.1 h.2 h.3)
-
-pub from_sbox : (a b c d x0 x1 x2 x3 w : ℕ) → x0 ≡ sbox (a / 16777216 % 256) → x1 ≡ sbox (b / 65536 % 256) → x2 ≡ sbox (c / 256 % 256) → x3 ≡ sbox (d % 256) → w ≡ x0 * 16777216 + x1 * 65536 + x2 * 256 + x3 → w ≡ rows_of sub_word a b c d
-unfolding sub_word
-from_sbox a b c d x0 x1 x2 x3 w e0 e1 e2 e3 e = omega arith
+pub from_table : (p q r s x0 x1 x2 x3 y1 y2 y3 : ℕ) → p < 256 → q < 256 → r < 256 → s < 256 → x0 ≡ spread p → x1 ≡ spread q → x2 ≡ spread r → x3 ≡ spread s → y1 ≡ ror x1 256 16777216 → y2 ≡ ror x2 65536 65536 → y3 ≡ ror x3 16777216 256 → bit_xor (bit_xor x0 y1) (bit_xor y2 y3) ≡ mixed_word p q r s
+from_table p q r s x0 x1 x2 x3 y1 y2 y3 hp hq hr hs e0 e1 e2 e3 r1 r2 r3 = cc (mixed_from_table p q r s hp hq hr hs)
 
 be_bytes : (w x0 x1 x2 x3 : ℕ) → w ≡ x0 * 16777216 + x1 * 65536 + x2 * 256 + x3 → x0 < 256 → x1 < 256 → x2 < 256 → x3 < 256 → bytes4 w ≡ x0 ∷ x1 ∷ x2 ∷ x3 ∷ []
 be_bytes w x0 x1 x2 x3 e h0 h1 h2 h3 =
@@ -165,7 +164,7 @@ be_bytes w x0 x1 x2 x3 e h0 h1 h2 h3 =
     cc
 
 -- the word of the four bytes of b from place i on
-abbrev pub be_at : List ℕ → ℕ → ℕ
+abbrev be_at : List ℕ → ℕ → ℕ
 be_at b i = get_or b i 0 * 16777216 + get_or b (i + 1) 0 * 65536 + get_or b (i + 2) 0 * 256 + get_or b (i + 3) 0
 
 pub loaded : (b : List ℕ) (w0 w1 w2 w3 : ℕ) → length b ≡ 16 → ((i : ℕ) → get_or b i 0 < 256) → w0 ≡ be_at b 0 → w1 ≡ be_at b 4 → w2 ≡ be_at b 8 → w3 ≡ be_at b 12 → unpack (record { c0 = w0; c1 = w1; c2 = w2; c3 = w3 }) ≡ b
@@ -175,12 +174,15 @@ loaded b w0 w1 w2 w3 len h e0 e1 e2 e3 =
     (be_bytes w2 _ _ _ _ e2 (h 8) (h 9) (h 10) (h 11)) (be_bytes w3 _ _ _ _ e3 (h 12) (h 13) (h 14) (h 15))
     ∙ sym (fill_by_all (λ i. get_or b i 0) b 16 0 len (λ k lt. refl))
 
-abbrev four : List ℕ → List ℕ
-four xs = get_or xs 0 0 ∷ get_or xs 1 0 ∷ get_or xs 2 0 ∷ get_or xs 3 0 ∷ []
+abbrev quad : List ℕ → ℕ → List ℕ
+quad b i = get_or b i 0 ∷ get_or b (i + 1) 0 ∷ get_or b (i + 2) 0 ∷ get_or b (i + 3) 0 ∷ []
 
-pub stored : (s : Columns) (x y z w : List ℕ) → x ≡ bytes4 s.c0 → y ≡ bytes4 s.c1 → z ≡ bytes4 s.c2 → w ≡ bytes4 s.c3 → four x ++ four y ++ four z ++ four w ≡ unpack s
-unfolding unpack
-stored s x y z w e0 e1 e2 e3 = join4 (ap four e0) (ap four e1) (ap four e2) (ap four e3)
+-- the four chunks of a block
+pub quads : (b : List ℕ) (words : List (List ℕ)) → length b ≡ 16 → words ≡ first_chunks 4 (length b / 4) b → words ≡ quad b 0 ∷ quad b 4 ∷ quad b 8 ∷ quad b 12 ∷ []
+quads b words len e =
+    let n : length b / 4 ≡ 4 = omega arith in
+    let f = fill_by_all (λ i. get_or b i 0) b 16 0 len (λ k lt. refl) in
+    e ∙ ap (λ (k : ℕ). first_chunks 4 k b) n ∙ ap (first_chunks 4 4) f
 
 second : (a b c d : ℕ) → b < 256 → c < 256 → d < 256 → word4 a b c d / 65536 % 256 ≡ b
 second a b c d hb hc hd = omega arith
@@ -192,3 +194,28 @@ sbox_in b x ys h e f =
     let s1 = sbox_lt b h in
     let g = second (times (sbox b) 2) (sbox b) (sbox b) (times (sbox b) 3) s1 s1 (three_lt (sbox b) s1) in
     cc
+
+-- the core of the next round key: the last column turned by a byte, through the S-box, with the constant
+core_bytes : (a b c d constant : ℕ) → a < 256 → b < 256 → c < 256 → d < 256 → constant < 256 → bytes4 (bit_xor (sub_word b c d a) (word4 constant 0 0 0)) ≡ bit_xor (sbox b) constant ∷ sbox c ∷ sbox d ∷ sbox a ∷ []
+unfolding sub_word
+core_bytes a b c d constant ha hb hc hd h =
+    let zero : 0 < 256 = omega arith in
+    let x = xor_word (sbox b) (sbox c) (sbox d) (sbox a) constant 0 0 0 (sbox_lt c hc) (sbox_lt d hd) (sbox_lt a ha) zero zero zero in
+    let y : bit_xor (word4 (sbox b) (sbox c) (sbox d) (sbox a)) (word4 constant 0 0 0) ≡ word4 (bit_xor (sbox b) constant) (sbox c) (sbox d) (sbox a) = simp xor_zero_r at x in
+    ap (λ (w : ℕ). bytes4 w) y ∙ word_bytes (bit_xor (sbox b) constant) (sbox c) (sbox d) (sbox a) (xor_lt 8 _ _ (sbox_lt b hb) h) (sbox_lt c hc) (sbox_lt d hd) (sbox_lt a ha)
+
+next_bytes : (k w a b c d : ℕ) → bytes4 w ≡ a ∷ b ∷ c ∷ d ∷ [] → bytes4 (bit_xor k w) ≡ bit_xor (k / 16777216 % 256) a ∷ bit_xor (k / 65536 % 256) b ∷ bit_xor (k / 256 % 256) c ∷ bit_xor (k % 256) d ∷ []
+next_bytes k w a b c d e = let x = bytes_xor k w in cc
+
+-- the columns of the next round key
+pub next_columns : (k : Columns) (constant s x : ℕ) → constant < 256 → s ≡ sub_word (k.c3 / 65536 % 256) (k.c3 / 256 % 256) (k.c3 % 256) (k.c3 / 16777216 % 256) → x ≡ word4 constant 0 0 0 → unpack (record { c0 = bit_xor k.c0 (bit_xor s x); c1 = bit_xor k.c1 (bit_xor k.c0 (bit_xor s x)); c2 = bit_xor k.c2 (bit_xor k.c1 (bit_xor k.c0 (bit_xor s x))); c3 = bit_xor k.c3 (bit_xor k.c2 (bit_xor k.c1 (bit_xor k.c0 (bit_xor s x)))) }) ≡ next_key constant (unpack k)
+unfolding unpack
+next_columns k constant s x h e f =
+    let t = lt4 k.c3 k.c3 k.c3 k.c3 in
+    let core = core_bytes (k.c3 / 16777216 % 256) (k.c3 / 65536 % 256) (k.c3 / 256 % 256) (k.c3 % 256) constant t.0 t.1 t.2 t.3 h in
+    let w = ap₂ (λ (s x : ℕ). bytes4 (bit_xor s x)) e f ∙ core in
+    let w0 = next_bytes k.c0 (bit_xor s x) _ _ _ _ w in
+    let w1 = next_bytes k.c1 (bit_xor k.c0 (bit_xor s x)) _ _ _ _ w0 in
+    let w2 = next_bytes k.c2 (bit_xor k.c1 (bit_xor k.c0 (bit_xor s x))) _ _ _ _ w1 in
+    let w3 = next_bytes k.c3 (bit_xor k.c2 (bit_xor k.c1 (bit_xor k.c0 (bit_xor s x)))) _ _ _ _ w2 in
+    join4 w0 w1 w2 w3

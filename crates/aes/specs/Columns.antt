@@ -40,7 +40,7 @@ unfoldable pub sub_word : ℕ → ℕ → ℕ → ℕ → ℕ
 sub_word p q r s = word4 (sbox p) (sbox q) (sbox r) (sbox s)
 
 -- A function of four bytes at row 0 of column a, row 1 of column b, row 2 of column c and row 3 of column d.
-abbrev pub rows_of : (ℕ → ℕ → ℕ → ℕ → ℕ) → ℕ → ℕ → ℕ → ℕ → ℕ
+abbrev pub rows_of {ℓ} : {R : Type ℓ} → (ℕ → ℕ → ℕ → ℕ → R) → ℕ → ℕ → ℕ → ℕ → R
 rows_of f a b c d = f (a / 16777216 % 256) (b / 65536 % 256) (c / 256 % 256) (d % 256)
 
 -- The state of a function of four bytes, with the rows shifted.

@@ -6,8 +6,8 @@ mod field;
 mod rounds;
 mod schedule;
 
-ghost use Rattle.std.specs.Prelude.{◌≡◌, ◌+◌, ◌<◌, map};
-ghost use Rattle.aes.specs.Aes.{aes128, after, round_key, round_keys};
+ghost use Rattle.std.specs.Prelude.{◌≡◌, map};
+ghost use Rattle.aes.specs.Aes.{aes128, after, round_keys};
 ghost use Rattle.aes.specs.Columns.{unpack};
 
 use crate::columns::Columns;
@@ -31,31 +31,22 @@ impl Aes128 {
         }
     }
 
-    // Round key i + 1.
-    fn round_key(&self, i: usize) -> Columns
-        requires { i < 10 }
-        ensures { unpack result ≡ round_key self.now.key (i + 1) }
-    {
-        self.rounds[i]
-    }
-
     // The state after nine rounds.
     fn nine_rounds(&self, block: &[u8; 16]) -> Columns
         ensures { unpack result ≡ after self.now.key block.now 9 }
     {
-        let mut state = Columns::load(block).xor(Columns::load(&self.key));
-        for i in 0..9 {
-            state = state.round(self.round_key(i));
+        let mut state = Columns::from(block) ^ Columns::from(&self.key);
+        for key in &self.rounds[..9] {
+            state = state.round(*key);
         }
         state
     }
 
     // A block encrypted under this key.
+    #[tactic(auto, using(crate::proofs::Keys::key_at))]
     pub fn encrypt(&self, block: &[u8; 16]) -> [u8; 16]
         ensures { result ≡ aes128 self.now.key block.now }
     {
-        self.nine_rounds(block)
-            .last_round(self.round_key(9))
-            .store()
+        self.nine_rounds(block).last_round(self.rounds[9]).into()
     }
 }

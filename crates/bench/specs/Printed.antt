@@ -1,11 +1,13 @@
 -- What the bench prints for an input.
-use Rattle.std.specs.Prelude.{◌≡◌, ℕ, ◌+◌, ◌*◌, false, cond, List, [], ◌∷◌, ◌++◌, replicate, Some, None, Ok, Err, Option, Result, MatchOption, ◌==◌}
+use Rattle.std.specs.Prelude.{◌≡◌, ℕ, ◌+◌, ◌*◌, false, List, [], ◌∷◌, ◌++◌, replicate, Some, None, Ok, Err, Option, Result, MatchOption}
 use Rattle.board.specs.Meaning.{Meaning, Power}
 use Rattle.board.specs.Memory.{memory}
 use Rattle.board.specs.Piles.{fused}
 use Rattle.board.specs.declared.types.Line.{Line}
 use Rattle.suite.specs.Scheme.{Scheme}
-use Rattle.suite.specs.Suites.{sip_scheme, cmac_scheme}
+use Rattle.suite.specs.Kinds.{scheme_of as scheme_under}
+use Rattle.suite.specs.declared.kind.SuiteKind.{SuiteKind}
+use Rattle.suite.specs.declared.kind.SuiteKind.TheVariants.{Sip, Cmac}
 use Rattle.machine.specs.History.{format, bring_up}
 use Rattle.controller.specs.Worlds.{world_in, cold_in, report_by, Keeps, Formats}
 use Rattle.controller.specs.BringUps.{BringsUp}
@@ -40,11 +42,11 @@ Rows S cap i (l ∷ ls) m c k out =
     × Rows S cap (i + 1) ls m' c' (copy_after m k s) more)
 
 -- What is printed on board m under chip c once it was formatted with this outcome and brought up.
-abbrev pub Table : Scheme → Header → List (List ℕ) → Result (Unit {0}) Fault → Meaning → Chip → List ℕ → Type 0
+abbrev pub Table : Scheme → Header SuiteKind → List (List ℕ) → Result (Unit {0}) Fault → Meaning → Chip → List ℕ → Type 0
 Table S h ls made m c out = (rows : List ℕ) × (out ≡ head_text made h.levels ++ rows) × Rows S h.slots 1 ls m c None rows
 
 -- What is printed for a script on board m: it is formatted and brought up, refused or not, as events of every history that came to it, and in a history or not as these calls do; then the steps are played.
-pub record Run (S : Scheme) (h : Header) (ls : List (List ℕ)) (m : Meaning) (out : List ℕ) : Type 0 where
+pub record Run (S : Scheme) (h : Header SuiteKind) (ls : List (List ℕ)) (m : Meaning) (out : List ℕ) : Type 0 where
   pub made : Result (Unit {0}) Fault
   pub formatted : Meaning
   pub formats : Formats S h.levels m (report_by made 0) formatted
@@ -57,8 +59,8 @@ pub record Run (S : Scheme) (h : Header) (ls : List (List ℕ)) (m : Meaning) (o
   pub prints : Table S h ls made brought_up chip out
 
 -- The suite of a header under its keys, of the two that the bench has.
-abbrev pub scheme_of : Header → Scheme
-scheme_of h = cond (h.suite == 1) (sip_scheme h.keys.mac h.keys.pad) (cmac_scheme h.keys.mac)
+abbrev pub scheme_of : Header SuiteKind → Scheme
+scheme_of h = scheme_under h.suite h.keys.mac h.keys.pad
 
 -- Memory of these words with a register of zeros, under a fuse.
 abbrev pub on_memory : List ℕ → Option ℕ → Meaning
@@ -69,13 +71,13 @@ unfoldable pub blank : List ℕ
 blank = replicate (9 * 584) 0
 
 -- What is printed once the header is read: the number of a line that is missing or unreadable, or what the script prints on a blank memory.
-abbrev pub AfterHeader : Outcome Header → List ℕ → Type 0
-AfterHeader (Err n) out = out ≡ bad n
+abbrev pub AfterHeader : Outcome (Header SuiteKind) → List ℕ → Type 0
+AfterHeader (Err e) out = out ≡ bad e.number
 AfterHeader (Ok p) out = Run (scheme_of p.0) p.0 (lines_of p.1.now) (on_memory blank p.0.fuse) out
 
 -- What is printed for all lines of the input. The suites are 1 and 2.
 unfoldable pub Printed : List (List ℕ) → List ℕ → Type 0
-Printed ls out = (r : Outcome Header) × HeaderRead (1 ∷ 2 ∷ []) ls r × AfterHeader r out
+Printed ls out = (r : Outcome (Header SuiteKind)) × HeaderRead ((1, Sip) ∷ (2, Cmac) ∷ []) ls r × AfterHeader r out
 
 -- Bytes of this kind were added to a text.
 abbrev pub Adds : (List ℕ → Type 0) → List ℕ → List ℕ → Type 0

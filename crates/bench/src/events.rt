@@ -11,10 +11,7 @@ use script::types::Step;
 fn put_of(copy: Option<Line>, at: u64) -> Option<Event>
     ensures { result ≡ put_of copy at }
 {
-    match copy {
-        Some(line) => Some(Event::Tamper(at as usize, line)),
-        None => None,
-    }
+    copy.map(|line| Event::Tamper(at as usize, line))
 }
 
 // What a step asks of the board, if anything.
@@ -42,8 +39,5 @@ pub(crate) fn copy_after<B: Board>(board: &B, step: &Step, copy: Option<Line>) -
     let Step::Copy(at) = step else {
         return copy;
     };
-    match board.read_line(*at as usize) {
-        Ok(line) => Some(line),
-        Err(_) => copy,
-    }
+    board.read_line(*at as usize).ok().or(copy)
 }

@@ -5,10 +5,12 @@ mod events;
 mod playing;
 mod rows;
 mod running;
+mod types;
 
 use running::transcript;
 use std::io::Read;
 
+// `seal` has the same `main` and `transcript`: only a library that allocates could hold them, and no library here does.
 fn main(rt: HostRuntime) -> anyhow::Result<()> {
     let mut input = Vec::new(rt.alloc());
     rt.stdin().read_to_end(&mut input)?;

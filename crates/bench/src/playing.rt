@@ -8,7 +8,8 @@ ghost use Rattle.bench.specs.Rows.{bad};
 ghost use Rattle.bench.specs.Printed.{Played, Rows, Table, Run, Adds};
 
 use crate::events::{copy_after, event_of};
-use crate::rows::{print_bad, print_head, row_of};
+use crate::rows::{Head, row_of};
+use crate::types::Script;
 use board::board::Board;
 use board::tamper::{Recharge, Tamper};
 use board::types::Line;
@@ -19,8 +20,9 @@ use controller::types::Fault;
 use script::step::read_step;
 use script::types::Header;
 use std::fmt;
+use suite::kind::SuiteKind;
 use suite::suite::Suite;
-use text::next_line;
+use text::lines::{BadLine, Lines};
 
 // Runs what a step asks of the board, if anything.
 fn play<B: Tamper + Recharge, S: Suite + Copy>(
@@ -42,7 +44,9 @@ fn print_bad_step(step: u64, out: &mut String) -> fmt::Result
     requires { step + 5 < 2 ^ 64 }
     ensures { OnOk result (string_bytes out.new ≡ string_bytes out.old ++ bad (step + 5)) }
 {
-    print_bad(step + 5, out)
+    let bad = BadLine { number: step + 5 };
+    writeln!(out, "{bad}")?;
+    Ok(())
 }
 
 // Runs the steps of a text, and adds a row for each, up to the first unreadable line.
@@ -56,9 +60,7 @@ fn play_steps<B: Tamper + Recharge, S: Suite + Copy>(
 {
     let mut open = opened;
     let mut copy = None;
-    let mut number = 1u64;
-    let mut rest = text;
-    while let Some((line, behind)) = next_line(rest) {
+    for (number, line) in (1..).zip(Lines { text }) {
         let Some(step) = read_step(line) else {
             return (open, print_bad_step(number, out));
         };
@@ -70,14 +72,16 @@ fn play_steps<B: Tamper + Recharge, S: Suite + Copy>(
         if let Err(e) = writeln!(out, "{row}") {
             return (open, Err(e.into()));
         }
-        number += 1;
-        rest = behind;
     }
     (open, Ok(()))
 }
 
 // Formats the board as the header says.
-fn format<B: Board, S: Suite>(cold: &mut Cold<B>, suite: &S, header: &Header) -> Result<(), Fault>
+fn format<B: Board, S: Suite>(
+    cold: &mut Cold<B>,
+    suite: &S,
+    header: &Header<SuiteKind>,
+) -> Result<(), Fault>
     ensures does { Formats (S.Suite.scheme suite.now) header.now.levels (B.Board.meaning cold.old.board) (report_by result 0) (B.Board.meaning cold.new.board) }
     ensures law { Keeps (S.Suite.scheme suite.now) (cold_in (B.Board.meaning cold.old.board)) (formatting header.now.levels) (report_by result 0) (cold_in (B.Board.meaning cold.new.board)) }
 {
@@ -88,7 +92,7 @@ fn format<B: Board, S: Suite>(cold: &mut Cold<B>, suite: &S, header: &Header) ->
 fn bring_up<B: Board, S: Suite>(
     cold: Cold<B>,
     suite: S,
-    header: &Header,
+    header: &Header<SuiteKind>,
 ) -> (Open<B, S>, Result<(), Fault>)
     ensures does { BringsUp (S.Suite.scheme suite) header.now.slots (B.Board.meaning cold.board) (report_by result.1 0) (B.Board.meaning result.0.board) (world_in (B.Board.meaning result.0.board) result.0.chip) }
     ensures law { Keeps (S.Suite.scheme suite) (cold_in (B.Board.meaning cold.board)) (bringing_up header.now.slots (S.Suite.scheme suite).number) (report_by result.1 0) (world_in (B.Board.meaning result.0.board) result.0.chip) }
@@ -97,35 +101,34 @@ fn bring_up<B: Board, S: Suite>(
     cold.bring_up(suite, header.slots)
 }
 
-// Adds the head of the table by what format answered, and the rows of the steps of a text.
+// Adds the head of the table by what format answered, and the rows of the steps.
 fn print_table<B: Tamper + Recharge, S: Suite + Copy>(
     opened: Open<B, S>,
     outcome: Result<(), Fault>,
-    header: &Header,
-    text: &[u8],
+    script: &Script,
     out: &mut String,
 ) -> (Open<B, S>, fmt::Result)
-    ensures { OnOk result.1 (Adds (Table (S.Suite.scheme opened.suite) header.now (lines_of text.now) outcome (B.Board.meaning opened.board) opened.chip) (string_bytes out.old) (string_bytes out.new)) }
+    ensures { OnOk result.1 (Adds (Table (S.Suite.scheme opened.suite) script.now.header (lines_of script.now.steps.now) outcome (B.Board.meaning opened.board) opened.chip) (string_bytes out.old) (string_bytes out.new)) }
 {
-    if let Err(e) = print_head(outcome, header.levels, out) {
-        return (opened, Err(e));
+    let head = Head::new(outcome, script.header.levels);
+    if let Err(e) = write!(out, "{head}") {
+        return (opened, Err(e.into()));
     }
-    play_steps(opened, header.slots, text, out)
+    play_steps(opened, script.header.slots, script.steps, out)
 }
 
-// Formats the board, brings it up and runs the steps of a text, and adds what is printed of all that.
+// Formats the board, brings it up and runs the steps, and adds what is printed of all that.
 pub(crate) fn play_script<B: Tamper + Recharge, S: Suite + Copy>(
     board: B,
     suite: S,
-    header: &Header,
-    text: &[u8],
+    script: &Script,
     out: &mut String,
 ) -> (B, fmt::Result)
-    ensures { OnOk result.1 (Adds (Run (S.Suite.scheme suite) header.now (lines_of text.now) (B.Board.meaning board)) (string_bytes out.old) (string_bytes out.new)) }
+    ensures { OnOk result.1 (Adds (Run (S.Suite.scheme suite) script.now.header (lines_of script.now.steps.now) (B.Board.meaning board)) (string_bytes out.old) (string_bytes out.new)) }
 {
     let mut cold = Cold::new(board);
-    let outcome = format(&mut cold, &suite, header);
-    let (open, _) = bring_up(cold, suite, header);
-    let (open, printed) = print_table(open, outcome, header, text, out);
+    let outcome = format(&mut cold, &suite, &script.header);
+    let (open, _) = bring_up(cold, suite, &script.header);
+    let (open, printed) = print_table(open, outcome, script, out);
     (open.shut_down().into_board(), printed)
 }

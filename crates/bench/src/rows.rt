@@ -1,6 +1,6 @@
 // What is printed of a script.
-ghost use Rattle.std.specs.Prelude.{◌≡◌, ◌++◌, string_bytes, OnOk};
-ghost use Rattle.bench.specs.Rows.{row_of, result_of, lines_needed, made_text, head_text, bad};
+ghost use Rattle.std.specs.Prelude.{◌≡◌, Some};
+ghost use Rattle.bench.specs.Rows.{row_of, result_of, lines_needed, made_text};
 
 use controller::event::Reply;
 use controller::types::Fault;
@@ -13,73 +13,77 @@ use tree::types::Layout;
 pub(crate) fn row_of(step: u64, reply: &Reply, register: &[u64; 32]) -> Row
     ensures { result ≡ row_of step reply.now register.now }
 {
-    let mut row = Row {
+    let silent = Row {
         step,
         result: 0,
         layer: 0,
         at: 0,
         value: 0,
         commits: 0,
-        ahead: dirty_nodes(&map_of(register)) as u64,
+        ahead: u64::from(dirty_nodes(&map_of(register))),
         total: register[11],
     };
     match reply {
-        Reply::Body(body) => row.value = body[0],
-        Reply::Done(commits) => row.commits = *commits,
-        Reply::Refused(fault, commits) => {
-            row.result = fault.cause();
-            row.layer = fault.layer();
-            row.at = fault.place();
-            row.commits = *commits;
-        }
-        Reply::Put(_) => {}
+        Reply::Body(body) => Row {
+            value: body[0],
+            ..silent
+        },
+        Reply::Done(commits) => Row {
+            commits: *commits,
+            ..silent
+        },
+        Reply::Refused(fault, commits) => Row {
+            result: fault.cause(),
+            layer: fault.layer(),
+            at: fault.place(),
+            commits: *commits,
+            ..silent
+        },
+        Reply::Put(_) => silent,
     }
-    row
 }
 
 // The number of a fault, or 0.
 fn result_of(outcome: Result<(), Fault>) -> u64
     ensures { result ≡ result_of outcome }
 {
-    match outcome {
-        Ok(_) => 0,
-        Err(fault) => fault.cause(),
-    }
+    outcome.err().map_or(0, |fault| fault.cause())
 }
 
 // How many lines so many levels need, or 0 where there is no such board.
 fn lines_needed(levels: u64) -> u64
     ensures { result ≡ lines_needed levels }
 {
-    match Layout::new(levels) {
-        Some(layout) => layout.lines() as u64,
-        None => 0,
+    Layout::new(levels).map_or(0, |layout| layout.lines() as u64)
+}
+
+// What is printed above the rows: the result of format, the number of lines, and the names of the columns.
+#[derive(Clone, Copy)]
+pub(crate) struct Head {
+    made: u64,
+    lines: u64,
+}
+
+impl Head {
+    pub(crate) fn new(outcome: Result<(), Fault>, levels: u64) -> Head
+        ensures made { result.made ≡ result_of outcome }
+        ensures lines { result.lines ≡ lines_needed levels }
+    {
+        Head {
+            made: result_of(outcome),
+            lines: lines_needed(levels),
+        }
     }
 }
 
-// Adds the head of the table, with these numbers above it.
-fn print_made(answer: u64, lines: u64, out: &mut String) -> fmt::Result
-    ensures { OnOk result (string_bytes out.new ≡ string_bytes out.old ++ made_text answer lines) }
-{
-    writeln!(
-        out,
-        "made={answer} lines={lines}\nstep result layer at value commits ahead total"
-    )?;
-    Ok(())
-}
+impl fmt::Display for Head {
+    ghost output = { λ h. Some (made_text h.made h.lines) };
 
-// Adds what is printed of format, and the head of the table.
-pub(crate) fn print_head(outcome: Result<(), Fault>, levels: u64, out: &mut String) -> fmt::Result
-    ensures { OnOk result (string_bytes out.new ≡ string_bytes out.old ++ head_text outcome levels) }
-{
-    print_made(result_of(outcome), lines_needed(levels), out)?;
-    Ok(())
-}
-
-// Adds what is printed at an unreadable line.
-pub(crate) fn print_bad(line: u64, out: &mut String) -> fmt::Result
-    ensures { OnOk result (string_bytes out.new ≡ string_bytes out.old ++ bad line) }
-{
-    writeln!(out, "bad={line}")?;
-    Ok(())
+    fn fmt<W: fmt::Write>(&self, f: &mut fmt::Formatter<W>) -> fmt::Result {
+        let Head { made, lines } = *self;
+        write!(
+            f,
+            "made={made} lines={lines}\nstep result layer at value commits ahead total\n"
+        )
+    }
 }

@@ -4,21 +4,21 @@ ghost use Rattle.text.specs.Spelling.{lines_of};
 ghost use Rattle.bench.specs.Printed.{scheme_of, on_memory, Run, Printed, Adds};
 
 use crate::playing::play_script;
-use crate::rows::print_bad;
+use crate::types::Script;
 use board::fuse::Fuse;
 use board::memory::Memory;
 use script::header::read_header;
-use script::types::Header;
 use std::alloc::Global;
 use std::fmt;
 use suite::cmac_suite::CmacSuite;
+use suite::kind::SuiteKind;
 use suite::sip_suite::SipSuite;
 use suite::suite::Suite;
 
 // The suites that the bench has, by number.
-const SUITES: [u64; 2] = [1, 2];
+const SUITES: [(u64, SuiteKind); 2] = [(1, SuiteKind::Sip), (2, SuiteKind::Cmac)];
 
-// The words of 584 lines.
+// The words of 584 lines: the board's memory is fixed, as that of the device is.
 const WORDS: usize = 9 * 584;
 
 // Memory of these words, under a fuse.
@@ -33,32 +33,28 @@ fn fused_memory(words: &mut [u64], left: Option<u64>) -> Fuse<Memory<'_>>
 // Runs a script on memory of these words, under the fuse of its header.
 fn play_on_memory<S: Suite + Copy>(
     suite: S,
-    header: &Header,
-    text: &[u8],
+    script: &Script,
     words: &mut [u64],
     out: &mut String,
 ) -> fmt::Result
-    ensures { OnOk result (Adds (Run (S.Suite.scheme suite) header.now (lines_of text.now) (on_memory words.old header.now.fuse)) (string_bytes out.old) (string_bytes out.new)) }
+    ensures { OnOk result (Adds (Run (S.Suite.scheme suite) script.now.header (lines_of script.now.steps.now) (on_memory words.old script.now.header.fuse)) (string_bytes out.old) (string_bytes out.new)) }
 {
-    let board = fused_memory(words, header.fuse);
-    let (_board, printed) = play_script(board, suite, header, text, out);
+    let board = fused_memory(words, script.header.fuse);
+    let (_board, printed) = play_script(board, suite, script, out);
     printed
 }
 
 // The same under the suite and the keys of the header.
-fn play_header(header: &Header, text: &[u8], words: &mut [u64], out: &mut String) -> fmt::Result
-    ensures { OnOk result (Adds (Run (scheme_of header.now) header.now (lines_of text.now) (on_memory words.old header.now.fuse)) (string_bytes out.old) (string_bytes out.new)) }
+fn play_keyed(script: &Script, words: &mut [u64], out: &mut String) -> fmt::Result
+    ensures { OnOk result (Adds (Run (scheme_of script.now.header) script.now.header (lines_of script.now.steps.now) (on_memory words.old script.now.header.fuse)) (string_bytes out.old) (string_bytes out.new)) }
 {
-    let keys = header.keys;
-    match header.suite {
-        1 => play_on_memory(
-            SipSuite::new(&keys.mac, &keys.pad),
-            header,
-            text,
-            words,
-            out,
-        ),
-        _ => play_on_memory(CmacSuite::new(&keys.mac), header, text, words, out),
+    let keys = script.header.keys;
+    // `seal` has the same two arms: a closure takes one type of suite, and a trait for what runs under both is longer.
+    match script.header.suite {
+        SuiteKind::Sip => {
+            play_on_memory(SipSuite::new(&keys.mac, &keys.pad), script, words, out)
+        }
+        SuiteKind::Cmac => play_on_memory(CmacSuite::new(&keys.mac), script, words, out),
     }
 }
 
@@ -67,11 +63,14 @@ fn print_all(input: &[u8], out: &mut String) -> fmt::Result
     ensures { OnOk result (Adds (Printed (lines_of input.now)) (string_bytes out.old) (string_bytes out.new)) }
 {
     match read_header(input, &SUITES) {
-        Ok((header, rest)) => {
+        Ok((header, steps)) => {
             let mut words = [0; WORDS];
-            play_header(&header, rest, &mut words, out)
+            play_keyed(&Script { header, steps }, &mut words, out)
         }
-        Err(line) => print_bad(line, out),
+        Err(bad) => {
+            writeln!(out, "{bad}")?;
+            Ok(())
+        }
     }
 }
 

@@ -1,8 +1,9 @@
 -- Lines that stand in words: how many there are, and what a read and a write of one does.
-use Rattle.std.proofs.Common.{◌≡◌, ℕ, ◌+◌, ◌-◌, ◌*◌, ◌/◌, ◌<◌, ◌≤◌, true, false, ◌≢◌, ◌⊎◌, List, [], ◌∷◌, ◌++◌, length, get_or, take, drop, set, sym, refl, ap, ◌∙◌, inl, inr, ⊎_elim, arith, rules}
+use Rattle.std.proofs.Common.{◌≡◌, ℕ, zero, suc, ◌+◌, ◌-◌, ◌*◌, ◌/◌, ◌<◌, ◌≤◌, true, false, ◌≢◌, ◌⊎◌, List, [], ◌∷◌, ◌++◌, length, get_or, take, drop, set, sym, refl, ap, ◌∙◌, inl, inr, ⊎_elim, arith, rules}
 use Rattle.std.specs.List.{between}
+use Rattle.std.specs.Simd.{first_chunks}
 use Rattle.std.proofs.lemmas.List.FromFn.{length-map-range_with_len, get_or-map-range_with_len}
-use Rattle.std.proofs.lemmas.List.{same_lists, places, length-set, get_or-set_same, get_or-set_other, length-append, take_at, get_or_at, length-drop, length-take-le, drop_at}
+use Rattle.std.proofs.lemmas.List.{same_lists, places, length-set, get_or-set_same, get_or-set_other, length-append, take_at, get_or_at, length-drop, length-take-le, drop_at, drop-drop}
 use Rattle.std.proofs.lemmas.Bool.{cases_eq, cases_lt}
 use Rattle.board.specs.Memory.{memory, lines_of, line_at, line_of, words_of, with_line}
 use Rattle.board.specs.Tampering.{LinePut}
@@ -13,6 +14,19 @@ memory_count ws = length-map-range_with_len (line_at ws) 0 (length ws / 9)
 
 pub memory_read : (ws : List ℕ) (a : ℕ) (d : Line) → a < length ws / 9 → get_or (lines_of ws) a d ≡ line_at ws a
 memory_read ws a d h = get_or-map-range_with_len (line_at ws) 0 (length ws / 9) a a d h (omega arith)
+
+-- The chunk at a place is the nine words there.
+chunk_at : (n : ℕ) (ws : List ℕ) (a : ℕ) (d : List ℕ) → a < n → get_or (first_chunks 9 n ws) a d ≡ take 9 (drop (9 * a) ws)
+chunk_at zero ws a d h = grind arith
+chunk_at (suc n) ws zero d h = refl
+chunk_at (suc n) ws (suc a) d h =
+    let past : 9 + 9 * a ≡ 9 * suc a = omega arith in
+    chunk_at n (drop 9 ws) a d (omega arith) ∙ ap (take 9) (drop-drop (9 * a) 9 ws ∙ ap (λ k. drop k ws) past)
+
+pub memory_chunk : (ws : List ℕ) (a : ℕ) (d : List ℕ) → a < length ws / 9 → line_of (get_or (first_chunks 9 (length ws / 9) ws) a d) ≡ line_at ws a
+memory_chunk ws a d h =
+    let nine : 9 ≡ 9 * a + 9 - 9 * a = omega arith in
+    ap line_of (chunk_at (length ws / 9) ws a d h ∙ ap (λ k. take k (drop (9 * a) ws)) nine)
 
 line_back : (l : Line) → length l.body ≡ 8 → line_of (words_of l) ≡ l
 line_back l e =

@@ -14,24 +14,11 @@ pub struct Fuse<B> {
     left: Option<u64>,
 }
 
-// Whether a fuse's number is used up.
-fn burnt(left: Option<u64>) -> bool
-    ensures { (result ≡ true → left ≡ Some 0) × (left ≡ Some 0 → result ≡ true) }
-{
-    match left {
-        Some(n) => n == 0,
-        None => false,
-    }
-}
-
 // A fuse's number after one more write.
 fn one_less(left: Option<u64>) -> Option<u64>
     ensures { result ≡ lowered left }
 {
-    match left {
-        Some(n) => Some(n.saturating_sub(1)),
-        None => None,
-    }
+    left.map(|n| n.saturating_sub(1))
 }
 
 impl<B> Fuse<B> {
@@ -82,7 +69,7 @@ impl<B: Board> Board for Fuse<B> {
         if at >= self.below.count() {
             return Err(BoardFault::Absent);
         }
-        if burnt(self.left) {
+        if self.left == Some(0) {
             return Err(BoardFault::PowerLost);
         }
         self.below.write_line(at, line)?;
@@ -98,7 +85,7 @@ impl<B: Board> Board for Fuse<B> {
         ensures meaning { RegisterWritten (fused (B.Board.meaning self.old.below) self.old.left) words result (fused (B.Board.meaning self.new.below) self.new.left) }
         ensures below { RegisterFused (B.Board.meaning self.old.below) self.old.left words result (B.Board.meaning self.new.below) self.new.left }
     {
-        if burnt(self.left) {
+        if self.left == Some(0) {
             return Err(BoardFault::PowerLost);
         }
         self.below.write_register(words)?;

@@ -21,47 +21,23 @@ fn whole_lines(words: usize) -> usize
     words / 9
 }
 
-// Writes a body into the first eight of nine words.
-fn put_body(part: &mut [u64], body: &[u64; 8])
-    requires { length part.old ≡ 9 }
-    ensures { part.new ≡ body.now ++ drop 8 part.old }
-{
-    part[0..8].copy_from_slice(body);
-}
-
-// Writes a tag into the last of nine words.
-fn put_tag(part: &mut [u64], tag: u64)
-    requires { length part.old ≡ 9 }
-    ensures { part.new ≡ slice_set part.old 8 tag }
-{
-    part[8] = tag;
-}
-
 // Writes a line into its nine words.
 fn put_line(part: &mut [u64], line: &Line)
     requires { length part.old ≡ 9 }
     ensures { part.new ≡ words_of line.now }
 {
-    put_body(part, &line.body);
-    put_tag(part, line.tag);
+    part[..8].copy_from_slice(&line.body);
+    part[8] = line.tag;
 }
 
 // The line that stands in nine words.
-fn line_in(part: &[u64]) -> Line
-    requires { length part.now ≡ 9 }
-    ensures { result ≡ line_of part.now }
+fn line_in(words: &[u64; 9]) -> Line
+    ensures { result ≡ line_of words.now }
 {
-    let mut body = [0; 8];
-    body.copy_from_slice(&part[0..8]);
-    Line { body, tag: part[8] }
-}
-
-// The line at an address, which the words have whole.
-fn line_at(words: &[u64], at: usize) -> Line
-    requires { at < length words.now / 9 }
-    ensures { result ≡ line_at words.now at }
-{
-    line_in(&words[9 * at..9 * at + 9])
+    Line {
+        body: *words.first_chunk().unwrap(),
+        tag: words[8],
+    }
 }
 
 // The number of lines.
@@ -75,10 +51,8 @@ fn lines_in(words: &[u64]) -> usize
 fn find(words: &[u64], at: usize) -> Option<Line>
     ensures { MatchOption result (length (lines_of words.now) ≤ at) (λ l. (at < length (lines_of words.now)) × (l ≡ slice_index_or (lines_of words.now) at l)) }
 {
-    if at >= whole_lines(words.len()) {
-        return None;
-    }
-    Some(line_at(words, at))
+    let (lines, _) = words.as_chunks();
+    Some(line_in(lines.get(at)?))
 }
 
 impl<'a> Memory<'a> {
@@ -107,19 +81,6 @@ impl<'a> Memory<'a> {
     {
         put_line(&mut self.words[9 * at..9 * at + 9], line);
     }
-
-    // Puts a line in place; false where the words have no such line.
-    fn store(&mut self, at: usize, line: &Line) -> bool
-        ensures words { WordsPut self.old.words.now at line.now result self.new.words.now }
-        ensures meaning { LinePut (memory self.old.words.now self.old.register) at line.now result (memory self.new.words.now self.new.register) }
-        ensures register { self.new.register ≡ self.old.register }
-    {
-        if at >= whole_lines(self.words.len()) {
-            return false;
-        }
-        self.overwrite(at, line);
-        true
-    }
 }
 
 impl Board for Memory<'_> {
@@ -137,11 +98,11 @@ impl Board for Memory<'_> {
         ensures meaning { LineWritten (memory self.old.words.now self.old.register) at line result (memory self.new.words.now self.new.register) }
         ensures words { WordsPut self.old.words.now at line (is_ok result) self.new.words.now }
     {
-        if self.store(at, &line) {
-            Ok(())
-        } else {
-            Err(BoardFault::Absent)
+        if at >= whole_lines(self.words.len()) {
+            return Err(BoardFault::Absent);
         }
+        self.overwrite(at, &line);
+        Ok(())
     }
 
     fn read_register(&self) -> [u64; 32] {
@@ -162,6 +123,6 @@ impl Tamper for Memory<'_> {
         ensures meaning { LinePut (memory self.old.words.now self.old.register) at line result (memory self.new.words.now self.new.register) }
         ensures words { WordsPut self.old.words.now at line result self.new.words.now }
     {
-        self.store(at, &line)
+        self.write_line(at, line).is_ok()
     }
 }

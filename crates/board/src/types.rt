@@ -1,5 +1,5 @@
 // A line: eight words of body and a tag.
-#[derive(Clone, Copy)]
+#[derive(Clone, Copy, PartialEq, Eq, Debug)]
 pub struct Line {
     pub body: [u64; 8],
     pub tag: u64,

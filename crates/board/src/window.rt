@@ -1,4 +1,4 @@
-ghost use Rattle.std.specs.Prelude.{◌≡◌, ◌+◌, ◌-◌, ◌<◌, ◌≤◌, min, length, MatchOption};
+ghost use Rattle.std.specs.Prelude.{◌≡◌, ◌+◌, ◌^◌, ◌<◌, ◌≤◌, length, MatchOption};
 ghost use Rattle.board.specs.Calls.{LineWritten, RegisterWritten};
 ghost use Rattle.board.specs.Tampering.{LinePut, Recharged};
 ghost use Rattle.board.specs.Piles.{windowed, Shows, LineShown, PutShown};
@@ -13,37 +13,6 @@ pub struct Window<B> {
     below: B,
     start: usize,
     len: usize,
-}
-
-// How many lines a window shows of `count`.
-fn shown(count: usize, start: usize, len: usize) -> usize
-    ensures { result ≡ min len (count - start) }
-{
-    count.saturating_sub(start).min(len)
-}
-
-// The address below of the line that a window on `count` lines shows at `at`.
-fn address(count: usize, start: usize, len: usize, at: usize) -> Option<usize>
-    ensures { MatchOption result (min len (count - start) ≤ at) (λ k. (at < min len (count - start)) × (k ≡ start + at)) }
-{
-    if at >= shown(count, start, len) {
-        return None;
-    }
-    Some(start + at)
-}
-
-// How many lines a window shows of a board.
-fn shown_of<B: Board>(below: &B, start: usize, len: usize) -> usize
-    ensures { result ≡ length (windowed (B.Board.meaning below.now) start len).lines }
-{
-    shown(below.count(), start, len)
-}
-
-// The address below of the line that a window on a board shows at `at`.
-fn place<B: Board>(below: &B, start: usize, len: usize, at: usize) -> Option<usize>
-    ensures { MatchOption result (length (windowed (B.Board.meaning below.now) start len).lines ≤ at) (λ k. Shows (B.Board.meaning below.now).lines start len at k) }
-{
-    address(below.count(), start, len, at)
 }
 
 impl<B> Window<B> {
@@ -73,17 +42,35 @@ impl<B> Window<B> {
     }
 }
 
+impl<B: Board> Window<B> {
+    // How many lines the window shows.
+    fn shown(&self) -> usize
+        ensures count { result ≡ length (windowed (B.Board.meaning self.now.below) self.now.start self.now.len).lines }
+        ensures fits { self.now.start + result < 2 ^ 64 }
+    {
+        self.below.count().saturating_sub(self.start).min(self.len)
+    }
+
+    // The address below of the line that the window shows at `at`.
+    fn place(&self, at: usize) -> Option<usize>
+        ensures { MatchOption result (length (windowed (B.Board.meaning self.now.below) self.now.start self.now.len).lines ≤ at) (λ k. Shows (B.Board.meaning self.now.below).lines self.now.start self.now.len at k) }
+    {
+        if at >= self.shown() {
+            return None;
+        }
+        Some(self.start + at)
+    }
+}
+
 impl<B: Board> Board for Window<B> {
     ghost meaning = { λ s. windowed (B.Board.meaning s.below) s.start s.len };
 
     fn count(&self) -> usize {
-        shown_of(&self.below, self.start, self.len)
+        self.shown()
     }
 
     fn read_line(&self, at: usize) -> Result<Line, BoardFault> {
-        let Some(k) = place(&self.below, self.start, self.len, at) else {
-            return Err(BoardFault::Absent);
-        };
+        let k = self.place(at).ok_or(BoardFault::Absent)?;
         self.below.read_line(k)
     }
 
@@ -92,9 +79,7 @@ impl<B: Board> Board for Window<B> {
         ensures below { LineShown (B.Board.meaning self.old.below) self.old.start at line result (B.Board.meaning self.new.below) }
         ensures frame { (self.new.start ≡ self.old.start) × (self.new.len ≡ self.old.len) }
     {
-        let Some(k) = place(&self.below, self.start, self.len, at) else {
-            return Err(BoardFault::Absent);
-        };
+        let k = self.place(at).ok_or(BoardFault::Absent)?;
         self.below.write_line(k, line)
     }
 
@@ -117,7 +102,7 @@ impl<B: Tamper> Tamper for Window<B> {
         ensures below { PutShown (B.Board.meaning self.old.below) self.old.start at line result (B.Board.meaning self.new.below) }
         ensures frame { (self.new.start ≡ self.old.start) × (self.new.len ≡ self.old.len) }
     {
-        let Some(k) = place(&self.below, self.start, self.len, at) else {
+        let Some(k) = self.place(at) else {
             return false;
         };
         self.below.put(k, line)

@@ -13,39 +13,25 @@ use aes::Aes128;
 use cmac::CmacKey;
 use sip::SipKey;
 
-fn encrypted(aes: &Aes128, block: &[u8; 16], turns: u64) -> [u8; 16]
-    ensures { result ≡ turned (aes128 aes.now.key) turns block.now }
-{
-    let mut out = *block;
-    for _i in 0..turns {
-        let next = aes.encrypt(&out);
-        out = next;
-    }
-    out
-}
-
 // A block encrypted again and again.
 #[unsafe(no_mangle)]
 pub extern "C" fn cbench_aes(key: &Block, block: &mut Block, turns: u64)
     ensures { block.new.bytes ≡ turned (aes128 key.now.bytes) turns block.old.bytes }
 {
-    block.bytes = encrypted(&Aes128::new(&key.bytes), &block.bytes, turns);
+    let aes = Aes128::new(&key.bytes);
+    let again = |bytes: [u8; 16], _turn: u64|
+        ensures { result ≡ aes128 aes.key bytes }
+    { aes.encrypt(&bytes) };
+    block.bytes = (0..turns).fold(block.bytes, again);
 }
 
-// A tag put in place of the first bytes of a message.
-fn put_tag(message: &mut [u8; 80], tag: &[u8; 16])
-    ensures { message.new ≡ tag.now ++ drop 16 message.old }
+// A message with its tag in place of its first bytes.
+fn tagged(cmac: &CmacKey, mut message: [u8; 80]) -> [u8; 80]
+    ensures { result ≡ tagged cmac.now.aes.key message }
 {
-    message[0..16].copy_from_slice(tag);
-}
-
-fn tag_again(cmac: &CmacKey, message: &mut [u8; 80], turns: u64)
-    ensures { message.new ≡ turned (tagged cmac.now.aes.key) turns message.old }
-{
-    for _i in 0..turns {
-        let tag = cmac.tag(message);
-        put_tag(message, &tag);
-    }
+    let tag = cmac.tag(&message);
+    message[..16].copy_from_slice(&tag);
+    message
 }
 
 // A message whose first block becomes its tag, again and again.
@@ -53,7 +39,11 @@ fn tag_again(cmac: &CmacKey, message: &mut [u8; 80], turns: u64)
 pub extern "C" fn cbench_cmac(key: &Block, message: &mut Message, turns: u64)
     ensures { message.new.bytes ≡ turned (tagged key.now.bytes) turns message.old.bytes }
 {
-    tag_again(&CmacKey::new(&key.bytes), &mut message.bytes, turns);
+    let cmac = CmacKey::new(&key.bytes);
+    let again = |bytes: [u8; 80], _turn: u64|
+        ensures { result ≡ tagged cmac.aes.key bytes }
+    { tagged(&cmac, bytes) };
+    message.bytes = (0..turns).fold(message.bytes, again);
 }
 
 // The hash of a message.

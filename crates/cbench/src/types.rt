@@ -1,4 +1,4 @@
-// What crosses to C.
+// What crosses to C: two structs, since the signature of an exported function has no struct with a const parameter.
 #[repr(C)]
 pub struct Block {
     pub bytes: [u8; 16],

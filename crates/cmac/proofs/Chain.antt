@@ -1,35 +1,42 @@
 -- Blocks and the chain of CMAC, step by step.
-use Rattle.std.proofs.Common.{◌≡◌, ℕ, suc, ◌+◌, ◌-◌, ◌*◌, ◌/◌, ◌%◌, ◌<◌, ◌≤◌, false, eqb, ◌≢◌, List, ◌∷◌, ◌++◌, length, get_or, take, drop, set, replicate, sym, refl, ap, ◌∙◌, add-one, arith, below_more, ne_eqb}
-use Rattle.std.proofs.lemmas.List.{length-set, get_or-set_same, get_or-set_other, get_or_past, length-append, length-drop, length-replicate, append_assoc, drop-replicate, replicate-append-replicate, set_at, take_at, take_all, take_rest}
+use Rattle.std.proofs.Common.{◌≡◌, ℕ, zero, suc, ◌+◌, ◌-◌, ◌*◌, ◌/◌, ◌<◌, ◌≤◌, false, eqb, ◌≢◌, List, ◌∷◌, ◌++◌, length, get_or, take, drop, set, replicate, sym, refl, ap, ◌∙◌, subst, inl, inr, eq-or-lt_of_le, add-one, mul-zero, mul-suc, arith, ne_eqb}
+use Rattle.std.proofs.lemmas.List.{get_or-take, drop-drop, length-append, length-replicate, append_assoc, drop-replicate, replicate-append-replicate, set_at, take_at}
 use Rattle.std.proofs.lemmas.List.FromFn.{fill_by_all}
-use Rattle.aes.specs.Aes.{xor_blocks}
-use Rattle.cmac.specs.Cmac.{chained, zeros, shifted, doubled, padded, last_block, subkey1, before_last}
+use denote.Param.Members.{Mut, Called}
+use Rattle.std.specs.Simd.{first_chunks}
+use Rattle.std.specs.Array.{IsFromFnResultFrom, IsFromFnResult}
+use Rattle.aes.specs.Aes.{sixteen, xor_blocks}
+use Rattle.cmac.specs.Cmac.{chained, zeros, doubled, padded, last_block, subkey1}
 
--- All bytes of a shifted block: the last takes nothing from the right.
-pub shifted_from : (b out : List ℕ) (i v : ℕ) → length b ≡ 16 → length out ≡ 16 → i ≡ 15 → ((k : ℕ) → k < i → get_or out k 0 ≡ get_or b k 0 % 128 * 2 + get_or b (k + 1) 0 / 128) → v ≡ get_or b 15 0 % 128 * 2 → set out 15 v ≡ shifted b
-unfolding shifted
-shifted_from b out i v lb lo n inv e =
-    let past : get_or b 16 0 ≡ 0 = get_or_past b 16 0 (omega arith) in
-    let len : length (set out 15 v) ≡ 16 = simp length-set lo in
-    let lt : 15 < length out = omega arith in
-    let P : ℕ → Type 0 = λ k. get_or (set out 15 v) k 0 ≡ get_or b k 0 % 128 * 2 + get_or b (k + 1) 0 / 128 in
-    fill_by_all (λ k. get_or b k 0 % 128 * 2 + get_or b (k + 1) 0 / 128) (set out 15 v) 16 0 len
-    (below_more P 15 (λ k h. let ne : k ≢ 15 = omega arith in rw get_or-set_other (inv k (omega arith))) (rw get_or-set_same (omega arith)))
+-- What a closure that keeps its state gives at each of the n places from i on.
+made_from : {F : Type 0} (g : Mut F (ℕ × Unit {0}) ℕ) (h : ℕ → ℕ) (f : F) (call : (i y : ℕ) (q : F) → Called g f (i, tt) y q → (y ≡ h i) × (q ≡ f)) (ys : List ℕ) (n i : ℕ) → IsFromFnResultFrom g f ys i n → (j : ℕ) → i ≤ j → j < i + n → get_or ys j 0 ≡ h j
+made_from g h f call ys zero i made j le lt = absurd (omega arith)
+made_from g h f call ys (suc n) i (q, y, at, called, more) j le lt =
+    let e = call i y q called in
+    elim (eq-or-lt_of_le le) as (λ _. get_or ys j 0 ≡ h j) [
+      | inl same ↦ subst (λ (k : ℕ). get_or ys k 0 ≡ h k) same (at.1 0 ∙ e.0)
+      | inr above ↦ made_from g h f call ys n (i + 1) (subst (λ (p : _). IsFromFnResultFrom g p ys (i + 1) n) e.1 more) j (omega arith) (omega arith)
+    ]
 
--- One block more.
-pub chained_more : (ciph : List ℕ → List ℕ) (m x b t y : List ℕ) (i : ℕ) → x ≡ chained ciph m i → b ≡ take 16 (drop (16 * i) m) → t ≡ xor_blocks x b → y ≡ ciph t → y ≡ chained ciph m (i + 1)
+-- A block that such a closure makes.
+pub made : {F : Type 0} (g : Mut F (ℕ × Unit {0}) ℕ) (h : ℕ → ℕ) (f : F) (call : (i y : ℕ) (q : F) → Called g f (i, tt) y q → (y ≡ h i) × (q ≡ f)) (ys : List ℕ) → IsFromFnResult g f ys 16 → ys ≡ sixteen h
+made g h f call ys r = fill_by_all h ys 16 0 r.long (λ j lt. made_from g h f call ys 16 0 r.each j (omega arith) lt)
+
+chunk_at : (n k : ℕ) (xs : List ℕ) (i : ℕ) (d : List ℕ) → i < k → get_or (first_chunks n k xs) i d ≡ take n (drop (n * i) xs)
+chunk_at n zero xs i d h = absurd (omega arith)
+chunk_at n (suc k) xs zero d h = rw mul-zero refl
+chunk_at n (suc k) xs (suc i) d h =
+    let e : n + n * i ≡ n * suc i = rw mul-suc (omega arith) in
+    chunk_at n k (drop n xs) i d (omega arith) ∙ ap (take n) (drop-drop (n * i) n xs ∙ ap (λ (j : ℕ). drop j xs) e)
+
+-- One block more, of those before the last one.
+pub chained_more : (ciph : List ℕ → List ℕ) (m x t y : List ℕ) (blocks : List (List ℕ)) (n i : ℕ) (d : List ℕ) → x ≡ chained ciph m i → blocks ≡ first_chunks 16 (length m / 16) m → n ≤ length m / 16 → i < n → t ≡ xor_blocks x (get_or (take n blocks) i d) → y ≡ ciph t → y ≡ chained ciph m (i + 1)
 unfolding chained
-chained_more ciph m x b t y i e f g h =
+chained_more ciph m x t y blocks n i d e f few lt g h =
+    let b : get_or (take n blocks) i d ≡ take 16 (drop (16 * i) m) =
+    get_or-take n blocks i d lt ∙ ap (λ (bs : List (List ℕ)). get_or bs i d) f ∙ chunk_at 16 (length m / 16) m i d (omega arith) in
     let step : chained ciph m (i + 1) ≡ ciph (xor_blocks (chained ciph m i) (take 16 (drop (16 * i) m))) = rw add-one refl in
     cc
-
--- What is left after the blocks before the last.
-pub tail_from : (m : List ℕ) (s : ℕ) → s ≡ length m - 1 → (take (length m - s / 16 * 16) (drop (s / 16 * 16) m) ≡ drop (16 * before_last m) m) × (length (take (length m - s / 16 * 16) (drop (s / 16 * 16) m)) ≤ 16)
-tail_from m s e =
-    let n : s / 16 * 16 ≡ 16 * before_last m = omega arith in
-    let r = take_rest m (s / 16 * 16) in
-    let few : length (drop (s / 16 * 16) m) ≤ 16 = simp length-drop (omega arith) in
-    (r ∙ ap (λ (k : ℕ). drop k m) n, rw r few)
 
 zeros_from : (n : ℕ) → n < 16 → drop n zeros ≡ 0 ∷ replicate (15 - n) 0
 zeros_from n h =
@@ -56,10 +63,10 @@ padded_from m x post h e f =
     let short = cut m (replicate (15 - length m) 0) (replicate (length m) 0) (simp length-replicate (omega arith)) in
     cc
 
-pub last_whole : (ciph : List ℕ → List ℕ) (m b k r : List ℕ) → length m ≡ 16 → b ≡ take 16 m → k ≡ subkey1 ciph → r ≡ xor_blocks b k → r ≡ last_block ciph m
+pub last_whole : (ciph : List ℕ → List ℕ) (m b k r : List ℕ) → length m ≡ 16 → b ≡ m → k ≡ subkey1 ciph → r ≡ xor_blocks b k → r ≡ last_block ciph m
 unfolding last_block
-last_whole ciph m b k r n e f g = let t = take_all 16 m (omega arith) in rw n (cc)
+last_whole ciph m b k r n e f g = rw n (cc)
 
-pub last_short : (ciph : List ℕ → List ℕ) (m b j k r : List ℕ) → length m < 16 → b ≡ padded m → j ≡ subkey1 ciph → k ≡ doubled j → r ≡ xor_blocks b k → r ≡ last_block ciph m
+pub last_short : (ciph : List ℕ → List ℕ) (m b j k r : List ℕ) → length m ≢ 16 → b ≡ padded m → j ≡ subkey1 ciph → k ≡ doubled j → r ≡ xor_blocks b k → r ≡ last_block ciph m
 unfolding last_block
-last_short ciph m b j k r n e f g h = let t : eqb (length m) 16 ≡ false = ne_eqb (length m) 16 (λ q. omega arith) in rw t (cc)
+last_short ciph m b j k r n e f g h = let t : eqb (length m) 16 ≡ false = ne_eqb (length m) 16 n in rw t (cc)

@@ -1,29 +1,22 @@
 // Blocks of 16 bytes.
-ghost use Rattle.std.specs.Prelude.{◌≡◌, ◌+◌, ◌*◌, ◌<◌, ◌≤◌, length, take, drop};
+ghost use Rattle.std.specs.Prelude.{◌≡◌, ◌*◌, ◌<◌, ◌≤◌, length, drop};
 ghost use Rattle.aes.specs.Aes.{xor_blocks};
 ghost use Rattle.cmac.specs.Cmac.{shifted, doubled, padded, before_last};
+
+use std::array;
 
 // Two blocks added byte by byte.
 pub(crate) fn xor(a: &[u8; 16], b: &[u8; 16]) -> [u8; 16]
     ensures { result ≡ xor_blocks a.now b.now }
 {
-    let mut out = [0; 16];
-    for i in 0..16 {
-        out[i] = a[i] ^ b[i];
-    }
-    out
+    array::from_fn(|i| a[i] ^ b[i])
 }
 
 // A block shifted left by one bit.
 fn shifted(b: &[u8; 16]) -> [u8; 16]
     ensures { result ≡ shifted b.now }
 {
-    let mut out = [0; 16];
-    for i in 0..15 {
-        out[i] = b[i] % 128 * 2 + b[i + 1] / 128;
-    }
-    out[15] = b[15] % 128 * 2;
-    out
+    array::from_fn(|i| b[i] % 128 * 2 + b.get(i + 1).copied().unwrap_or(0) / 128)
 }
 
 // The subkey after b.
@@ -37,21 +30,18 @@ pub(crate) fn doubled(b: &[u8; 16]) -> [u8; 16]
     next
 }
 
-// The 16 bytes of a message from a place on.
-pub(crate) fn block_at(message: &[u8], at: usize) -> [u8; 16]
-    requires { at + 16 ≤ length message.now }
-    ensures { result ≡ take 16 (drop at message.now) }
+// How many blocks stand before the last one.
+pub(crate) fn before_last(message: &[u8]) -> usize
+    ensures { result ≡ before_last message.now }
 {
-    let mut out = [0; 16];
-    out.copy_from_slice(&message[at..at + 16]);
-    out
+    message.len().saturating_sub(1) / 16
 }
 
 // The last block of a message, of at most 16 bytes.
 pub(crate) fn tail(message: &[u8]) -> &[u8]
     ensures { (result.now ≡ drop (16 * before_last message.now) message.now) × (length result.now ≤ 16) }
 {
-    &message[message.len().saturating_sub(1) / 16 * 16..]
+    &message[16 * before_last(message)..]
 }
 
 // A short block padded by a bit 1 and zeros.
@@ -60,7 +50,7 @@ pub(crate) fn padded(rest: &[u8]) -> [u8; 16]
     ensures { result ≡ padded rest.now }
 {
     let mut out = [0; 16];
-    out[0..rest.len()].copy_from_slice(rest);
+    out[..rest.len()].copy_from_slice(rest);
     out[rest.len()] = 0x80;
     out
 }

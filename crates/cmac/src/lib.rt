@@ -7,7 +7,7 @@ ghost use Rattle.std.specs.Prelude.{◌≡◌, ◌≤◌, length};
 ghost use Rattle.aes.specs.Aes.{aes128};
 ghost use Rattle.cmac.specs.Cmac.{cmac, chained, before_last, subkey1, last_block};
 
-use crate::blocks::{block_at, doubled, padded, tail, xor};
+use crate::blocks::{before_last, doubled, padded, tail, xor};
 use aes::Aes128;
 
 // A key of AES-CMAC, with its first subkey.
@@ -31,10 +31,10 @@ impl CmacKey {
     fn chain(&self, message: &[u8]) -> [u8; 16]
         ensures { result ≡ chained (aes128 self.now.aes.key) message.now (before_last message.now) }
     {
+        let (blocks, _) = message.as_chunks::<16>();
         let mut chain = [0; 16];
-        for i in 0..message.len().saturating_sub(1) / 16 {
-            let next = self.aes.encrypt(&xor(&chain, &block_at(message, 16 * i)));
-            chain = next;
+        for block in &blocks[..before_last(message)] {
+            chain = self.aes.encrypt(&xor(&chain, block));
         }
         chain
     }
@@ -44,10 +44,9 @@ impl CmacKey {
         requires { length rest.now ≤ 16 }
         ensures { result ≡ last_block (aes128 self.now.aes.key) rest.now }
     {
-        if rest.len() == 16 {
-            xor(&block_at(rest, 0), &self.k1)
-        } else {
-            xor(&padded(rest), &doubled(&self.k1))
+        match rest.as_array() {
+            Some(block) => xor(block, &self.k1),
+            None => xor(&padded(rest), &doubled(&self.k1)),
         }
     }
 

@@ -9,8 +9,11 @@ use Rattle.machine.specs.Words.{state_in}
 use Rattle.machine.specs.Faults.{Fault as Why, fault, power_lost}
 use Rattle.machine.specs.Plans.{Table, View, Run, chain, and_then}
 use Rattle.machine.specs.History.{after, power_lost_at}
+use Rattle.machine.specs.declared.layout.Layout.{Layout}
+use Rattle.controller.specs.declared.chip.Chip.{Chip}
 use Rattle.controller.specs.Views.{view_in}
 use Rattle.controller.specs.Runs.{ends_after, Went}
+use Rattle.controller.specs.Registers.{Rest}
 use Rattle.machine.proofs.Basics.{none≢some, some_inj}
 use Rattle.machine.proofs.Cuts.{after_writes_front, after_writes_back, cut_le}
 
@@ -156,6 +159,22 @@ module _ (r : Run) (f : View → Run) (m m₁ : Meaning) (t₁ : Table) (n n₁ 
                 still = λ e. y.still (sym (commits_front r.planned (f r.view).planned y.done (omega arith)) ∙ e);
                 lost = λ z e c. omega (arith, long);
               }
+
+-- A run of two steps, from what came of each, or of the first alone.
+module _ {r : Run} {m m₁ : Meaning} {t₁ : Table} {n n₁ : ℕ} {w : Run} (f : View → Run) (e : and_then r f ≡ w) where
+  pub went_both : {m₂ : Meaning} {t₂ : Table} {o : Option Why} {n₂ : ℕ} → Went r m none m₁ t₁ n n₁ → Went (f (view_in m₁ t₁)) m₁ o m₂ t₂ n₁ n₂ → Went w m o m₂ t₂ n n₂
+  went_both {m₂} {t₂} {o} {n₂} x y = subst (λ (z : Run). Went z m o m₂ t₂ n n₂) e (went_then r f m m₁ t₁ n n₁ m₂ t₂ o n₂ x y)
+
+  pub went_first : {x : Why} → Went r m (some x) m₁ t₁ n n₁ → Went w m (some x) m₁ t₁ n n₁
+  went_first {x} y = subst (λ (z : Run). Went z m (some x) m₁ t₁ n n₁) e (went_stop r f m m₁ t₁ n n₁ x y)
+
+-- What is said of the suite and the layout that a step left as they were.
+module _ {A : Type 0} {s s' : A} {c c' : Chip} (d : Rest s c s' c') (P : A → Layout → Type 0) where
+  pub of_before : P s' c'.slots.layout → P s c.slots.layout
+  of_before x = subst (λ a. P a c.slots.layout) d.suite (subst (λ (y : Layout). P s' y) d.layout x)
+
+  pub of_after : P s c.slots.layout → P s' c'.slots.layout
+  of_after x = subst (λ a. P a c'.slots.layout) (sym d.suite) (subst (λ (y : Layout). P s y) (sym d.layout) x)
 
 -- What a run done whole leaves.
 pub went_view : (r : Run) (m m' : Meaning) (t' : Table) (n n' : ℕ) → Went r m none m' t' n n' → view_in m' t' ≡ r.view

@@ -8,12 +8,12 @@ use Rattle.machine.specs.Layout.{update, eight_ary, lines_of, counter_limit}
 use Rattle.machine.specs.Store.{line_at}
 use Rattle.machine.specs.Words.{memory_in, row, no_line}
 use Rattle.machine.specs.Plans.{Slot, Table, raised, slot_for, overdue}
-use Rattle.tree.specs.Layouts.{shape_in}
+use Rattle.machine.specs.Layouts.{shape_in}
 use Rattle.tree.specs.SlotTable.{slot_or, table_in, Raised, FitToRaise}
 use Rattle.controller.specs.Views.{view_in}
 use Rattle.controller.specs.Registers.{Room, RoomAt, SmallAt, raised_slots, root_words}
 use Rattle.tree.specs.declared.types.Slots.{Slots}
-use Rattle.tree.specs.declared.types.Layout.{Layout}
+use Rattle.machine.specs.declared.layout.Layout.{Layout}
 use Rattle.board.specs.declared.types.Line.{Line}
 
 module _ (h : ℕ) (S : Scheme) (a c : ℕ) (b : Body) where
@@ -82,9 +82,3 @@ module _ (s : Slots) (m : Meaning) (y : Layout) (e : y ≡ s.layout) (a p i n c 
 
   pub words_node : p < n → (ws : List ℕ) → ws ≡ root_words (shape_in s.layout) a c ws
   words_node k ws = words_same s.layout.levels a c p ws above (subst (λ x. p < x) all k)
-
-  pub raise_root : n ≤ p → table_in s ≡ raised_slots (shape_in s.layout) (memory_in m.lines) (table_in s) a c
-  raise_root k = sym (ap (λ d. cond d (update (table_in s) (8 ^ s.layout.levels + a / 8) (some (raised (slot_for (memory_in m.lines) (table_in s (8 ^ s.layout.levels + a / 8)) (8 ^ s.layout.levels + a / 8)) (a % 8) c))) (table_in s)) (le-ltb (8 ^ s.layout.levels + a / 8) (lines_of s.layout.levels) (omega (arith, above, all))))
-
-  pub words_root : n ≤ p → (ws : List ℕ) → set ws (3 + i) c ≡ root_words (shape_in s.layout) a c ws
-  words_root k ws = ap (λ x. set ws (3 + x) c) j ∙ sym (ap (λ d. cond d ws (set ws (3 + a % 8) c)) (le-ltb (8 ^ s.layout.levels + a / 8) (lines_of s.layout.levels) (omega (arith, above, all))))

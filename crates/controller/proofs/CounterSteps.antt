@@ -1,5 +1,5 @@
 -- The current counter of a line, one step at a time.
-use Rattle.std.proofs.Common.{◌≡◌, ℕ, ◌+◌, ◌/◌, ◌%◌, ◌^◌, ◌<◌, ◌≤◌, true, false, cond, List, get_or, drop, sym, refl, ap, ◌∙◌, subst, arith}
+use Rattle.std.proofs.Common.{◌≡◌, ℕ, ◌+◌, ◌/◌, ◌%◌, ◌^◌, ◌<◌, ◌≤◌, Bool, true, false, cond, List, get_or, drop, sym, refl, ap, ◌∙◌, subst, arith}
 use mathlib.Core.Option.{Option, some, none}
 use Rattle.std.proofs.lemmas.Bool.{both_ways}
 use Rattle.std.proofs.lemmas.List.{get_or-take, get_or-drop}
@@ -9,7 +9,7 @@ use Rattle.machine.specs.Layout.{Shape, TreeLaws, eight_ary, lines_of}
 use Rattle.machine.specs.Words.{row, register_in, memory_in, line_in, no_line}
 use Rattle.machine.specs.Faults.{Fault, fault, Outcome, ok, err, corrupt}
 use Rattle.machine.specs.Plans.{is_dirty, slot_counters, View, Table, Slot, held, in_line, node_valid, counter_at, counter_of}
-use Rattle.tree.specs.Tables.{all_within}
+use Rattle.machine.specs.Layout.{all_within}
 use Rattle.controller.specs.Views.{view_in, Fits, node_line_valid}
 use Rattle.machine.proofs.EightAry.{eight_trees}
 use Rattle.board.specs.declared.types.Line.{Line}
@@ -68,12 +68,12 @@ module _ (h : ℕ) (m : Meaning) (F : Fits h m) (S : Scheme) (t : Table) (a p i 
     pub from_above : t p ≡ none → (x : Fault) → err x ≡ counter_of (eight_ary h) S v p → err x ≡ counter_of (eight_ary h) S v a
     from_above e x c = below e (err x) c
 
-    pub from_corrupt : t p ≡ none → (c : ℕ) → ok c ≡ counter_of (eight_ary h) S v p → (l : Line) → l ≡ get_or m.lines p no_line → false ≡ node_line_valid S p c (line_in l) → err (fault corrupt p) ≡ counter_of (eight_ary h) S v a
+    pub from_corrupt : t p ≡ none → (c : ℕ) → ok c ≡ counter_of (eight_ary h) S v p → (l : Line) → l ≡ get_or m.lines p no_line → (b : Bool) → b ≡ node_line_valid S p c (line_in l) → b ≡ false → err (fault corrupt p) ≡ counter_of (eight_ary h) S v a
     unfolding memory_in
-    from_corrupt e c f l g s = ap (λ b. cond b (ok ((memory_in m.lines p).words (a % 8))) (err (fault corrupt p))) (s ∙ ap (λ x. node_line_valid S p c (line_in x)) g ∙ sym (valid_is h S m.lines p c)) ∙ below e (ok c) f
+    from_corrupt e c f l g b q s = ap (λ b. cond b (ok ((memory_in m.lines p).words (a % 8))) (err (fault corrupt p))) (sym s ∙ q ∙ ap (λ x. node_line_valid S p c (line_in x)) g ∙ sym (valid_is h S m.lines p c)) ∙ below e (ok c) f
 
-    pub from_line : t p ≡ none → (c : ℕ) → ok c ≡ counter_of (eight_ary h) S v p → (l : Line) → l ≡ get_or m.lines p no_line → true ≡ node_line_valid S p c (line_in l) → ok (row l.body i) ≡ counter_of (eight_ary h) S v a
+    pub from_line : t p ≡ none → (c : ℕ) → ok c ≡ counter_of (eight_ary h) S v p → (l : Line) → l ≡ get_or m.lines p no_line → (b : Bool) → b ≡ node_line_valid S p c (line_in l) → b ≡ true → ok (row l.body i) ≡ counter_of (eight_ary h) S v a
     unfolding memory_in
-    from_line e c f l g s =
+    from_line e c f l g b q s =
         ap (λ x. ok (row l.body x)) j ∙ ap (λ x. ok (row x.body (a % 8))) g
-        ∙ ap (λ b. cond b (ok ((memory_in m.lines p).words (a % 8))) (err (fault corrupt p))) (s ∙ ap (λ x. node_line_valid S p c (line_in x)) g ∙ sym (valid_is h S m.lines p c)) ∙ below e (ok c) f
+        ∙ ap (λ b. cond b (ok ((memory_in m.lines p).words (a % 8))) (err (fault corrupt p))) (sym s ∙ q ∙ ap (λ x. node_line_valid S p c (line_in x)) g ∙ sym (valid_is h S m.lines p c)) ∙ below e (ok c) f

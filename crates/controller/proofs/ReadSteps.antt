@@ -1,5 +1,6 @@
 -- Reads, from what the code found.
-use Rattle.std.proofs.Common.{◌≡◌, ℕ, ◌^◌, ◌<◌, ◌≤◌, Bool, true, false, cond, List, get_or, Some, None, Option as Maybe, Result, sym, refl, ap, ◌∙◌}
+use Rattle.std.proofs.Common.{◌≡◌, ℕ, ◌^◌, ◌<◌, ◌≤◌, Bool, true, false, cond, List, get_or, Some, None, Option as Maybe, sym, refl, ap, ◌∙◌}
+use Rattle.std.specs.Option.{ok_or}
 use Rattle.std.proofs.lemmas.Bool.{lt-ltb, le-ltb}
 use mathlib.Core.Option.{some, none}
 use Rattle.machine.proofs.Basics.{none≢some, some_inj}
@@ -10,8 +11,8 @@ use Rattle.machine.specs.Layout.{eight_ary}
 use Rattle.machine.specs.Words.{row, memory_in, line_in, no_line}
 use Rattle.machine.specs.Faults.{fault, Outcome, ok, err, not_data, corrupt}
 use Rattle.machine.specs.Plans.{View, Table, counter_of, read_under, read_call}
-use Rattle.controller.specs.Views.{view_in, body_in, Opened}
-use Rattle.controller.specs.declared.types.TreeFault.{TreeFault}
+use Rattle.controller.specs.Views.{view_in, body_in}
+use Rattle.controller.specs.declared.types.TreeFault.TheVariants.{Corrupt}
 use Rattle.board.specs.declared.types.Line.{Line}
 
 module _ (h : ℕ) (m : Meaning) (S : Scheme) (t : Table) (a : ℕ) where
@@ -49,6 +50,6 @@ module _ (h : ℕ) (m : Meaning) (S : Scheme) (t : Table) (a : ℕ) where
         go false q p = found false q
 
     -- Either way.
-    pub read_answers : (o : Maybe (List ℕ)) → Answers (open_data S a c (line_in l)) o → (r : Result (List ℕ) TreeFault) → Opened o a r → body_in r ≡ read_call (eight_ary h) S v a
-    read_answers (Some ws) z r y = ap body_in y ∙ read_opened (row ws) z
-    read_answers None z r y = ap body_in y ∙ read_corrupt z
+    pub read_answers : (o : Maybe (List ℕ)) → Answers (open_data S a c (line_in l)) o → body_in (ok_or o (Corrupt a)) ≡ read_call (eight_ary h) S v a
+    read_answers (Some ws) z = read_opened (row ws) z
+    read_answers None z = read_corrupt z

@@ -15,7 +15,7 @@ use Rattle.machine.proofs.EightAry.{eight_trees}
 use Rattle.tree.specs.DirtyMap.{bits_set}
 use Rattle.tree.specs.SlotTable.{map_in}
 use Rattle.tree.proofs.Bits.{sum_append}
-use Rattle.tree.proofs.MapBits.{lines_near}
+use Rattle.machine.proofs.EightAry.{lines_near}
 use Rattle.controller.specs.BringUps.{Passed}
 use Rattle.controller.proofs.RestoreSteps.{sum_skip, map_clear_below, map_bit, levels_in}
 

@@ -9,7 +9,7 @@ use Rattle.machine.specs.Words.{row, register_in, state_in}
 use Rattle.machine.specs.Faults.{Fault as Why}
 use Rattle.machine.specs.Plans.{map_count}
 use Rattle.machine.specs.History.{latched, World, bring_up, Answer, done, refused, journal_writes, journal_in, bring_up_check, BroughtUp}
-use Rattle.tree.specs.declared.types.Layout.{Layout}
+use Rattle.machine.specs.declared.layout.Layout.{Layout}
 use Rattle.controller.specs.declared.types.Fault.{Fault}
 use Rattle.controller.specs.declared.chip.Chip.{Chip}
 use Rattle.controller.specs.Views.{fault_of, Fits}

@@ -1,13 +1,14 @@
 -- The register of a commit, word by word, and what the steps of a write ask of the slots and leave in them.
-use Rattle.std.specs.Prelude.{◌≡◌, ℕ, ◌+◌, ◌<◌, ◌≤◌, cond, List, length, take, drop, replicate, Ok, Err, Result, nat_lt, slice_index, slice_index_or, slice_set}
+use Rattle.std.specs.Prelude.{◌≡◌, ℕ, suc, ◌+◌, ◌<◌, ◌≤◌, cond, List, length, take, drop, replicate, Ok, Err, Result, nat_lt, slice_index, slice_index_or, slice_set}
 use Rattle.std.proofs.Math.Option.{Option, some, none}
 use Rattle.board.specs.declared.types.Line.{Line as Stored}
 use Rattle.suite.specs.Scheme.{Line}
 use Rattle.machine.specs.Layout.{Shape, update, counter_limit}
 use Rattle.machine.specs.Words.{no_address}
-use Rattle.machine.specs.Faults.{Fault}
+use Rattle.machine.specs.Faults.{Fault, fault, Outcome, ok, err, at_limit}
 use Rattle.machine.specs.Plans.{Slot, Table, View, slot_for, raised}
 use Rattle.controller.specs.declared.types.LineFault.{LineFault}
+use Rattle.controller.specs.declared.chip.Chip.{Chip}
 
 -- The register's words with the root's counter of line a, where the root is its parent.
 abbrev pub root_words : Shape → ℕ → ℕ → List ℕ → List ℕ
@@ -22,6 +23,11 @@ RegisterRaised T a c ws (Err f) = ⊥
 abbrev pub raised_slots : Shape → (ℕ → Line) → Table → ℕ → ℕ → Table
 raised_slots T m t a c =
     cond (nat_lt (T.parent a) T.lines) (update t (T.parent a) (some (raised (slot_for m (t (T.parent a)) (T.parent a)) (T.index a) c))) t
+
+-- The counter after the current one, unless that is at the limit or not to be had.
+abbrev pub next_counter : ℕ → Outcome ℕ → Outcome ℕ
+next_counter a (ok c) = cond (nat_lt c counter_limit) (ok (suc c)) (err (fault at_limit a))
+next_counter a (err x) = err x
 
 -- There is room to raise a counter: the slot is not overdue, or a slot is free.
 abbrev pub Room : ℕ → Option Slot → Type 0
@@ -51,6 +57,17 @@ pub record Journaled (ws : List ℕ) (sum a : ℕ) (l : Stored) (dirty : List �
 -- Below the parent of node a, the slots are those of before without a's.
 abbrev pub LeftSlot : Shape → ℕ → Table → Option Fault → Table → Type 0
 LeftSlot T a t o t' = o ≡ none → (q : ℕ) → q < T.parent a → t' q ≡ update t a none q
+
+-- Below node a the slots are those of before.
+abbrev pub SameBelow : ℕ → Table → Option Fault → Table → Type 0
+SameBelow a t o t' = o ≡ none → (q : ℕ) → q < a → t' q ≡ t q
+
+-- What a step leaves as it was: the suite, and of the chip the layout and the number of slots and the latched fault.
+pub record Rest {A : Type 0} (s : A) (c : Chip) (s' : A) (c' : Chip) : Type 0 where
+  pub suite : s' ≡ s
+  pub layout : c'.slots.layout ≡ c.slots.layout
+  pub capacity : c'.capacity ≡ c.capacity
+  pub latched : c'.latched ≡ c.latched
 
 -- At most `keep` nodes are dirty, and no leaf that was not.
 abbrev pub Freed : Shape → ℕ → Table → Option Fault → ℕ → Table → Type 0

@@ -9,7 +9,7 @@ use Rattle.machine.specs.Plans.{Table, View, slot_unless, child_valid}
 use Rattle.machine.specs.Plans.{Slot as DirtyNode}
 use Rattle.tree.specs.Tables.{slot_in}
 use Rattle.tree.specs.SlotTable.{table_in}
-use Rattle.tree.specs.declared.types.Layout.{Layout}
+use Rattle.machine.specs.declared.layout.Layout.{Layout}
 use Rattle.tree.specs.declared.types.Slot.{Slot}
 use Rattle.tree.specs.declared.types.Slots.{Slots}
 use Rattle.controller.specs.declared.types.TreeFault.{TreeFault}

@@ -1,17 +1,22 @@
 -- How the definitions see what the code holds: faults, outcomes, and a board with the lines of its levels.
-use Rattle.std.specs.Prelude.{◌≡◌, ℕ, ◌<◌, ◌≤◌, Bool, ◌&&◌, List, length, Some, None, Ok, Err, Option as Maybe, Result, slice_index_or}
+use Rattle.std.specs.Prelude.{◌≡◌, ℕ, ◌<◌, ◌≤◌, Bool, ◌&&◌, List, length, Ok, Err, Result, slice_index_or}
 use Rattle.board.specs.Meaning.{Meaning}
 use Rattle.board.specs.declared.types.Line.{Line as Stored}
 use Rattle.board.specs.declared.types.BoardFault.{BoardFault}
 use Rattle.board.specs.declared.types.BoardFault.TheVariants.{Absent, PowerLost}
 use Rattle.suite.specs.Scheme.{Body, Line, Scheme, right}
-use Rattle.machine.specs.Layout.{lines_of}
+use Rattle.machine.specs.Layout.{Shape, lines_of}
 use Rattle.machine.specs.Words.{row, no_line, memory_in, register_in}
 use Rattle.machine.specs.Faults.{fault, Outcome, ok, err, not_data, bad_size, too_few_lines, invalid_register, already_formatted, other_suite, too_many_dirty, corrupt, sum_mismatch, power_lost, at_limit}
 use Rattle.machine.specs.Faults.{Fault as Why}
 use Rattle.machine.specs.Plans.{Table, View}
-use Rattle.tree.specs.Tables.{all_within}
+use Rattle.machine.specs.Layouts.{shape_in}
+use Rattle.tree.specs.SlotTable.{table_in}
+use Rattle.machine.specs.Layout.{all_within}
+use Rattle.controller.specs.declared.chip.Chip.{Chip}
 use Rattle.controller.specs.declared.types.LineFault.{LineFault}
+use Rattle.controller.specs.declared.types.Layer.{Layer}
+use Rattle.controller.specs.declared.types.Layer.TheVariants.{Board as OfBoard, Tree as OfTree, Controller as OfController}
 use Rattle.controller.specs.declared.types.TreeFault.{TreeFault}
 use Rattle.controller.specs.declared.types.TreeFault.TheVariants.{Board, Corrupt, AtLimit, SumMismatch}
 use Rattle.controller.specs.declared.types.Fault.{Fault}
@@ -41,8 +46,14 @@ fault_of AlreadyFormatted = fault already_formatted 0
 fault_of OtherSuite = fault other_suite 0
 fault_of TooManyDirty = fault too_many_dirty 0
 
--- A board's answer to a write, its fault with the line in hand.
-abbrev pub with_line : Result (Unit {0}) BoardFault → ℕ → Result (Unit {0}) LineFault
+-- The number of a layer: 1 the board, 2 the tree, 3 the controller.
+abbrev pub layer_number : Layer → ℕ
+layer_number OfBoard = 1
+layer_number OfTree = 2
+layer_number OfController = 3
+
+-- A board's answer, its fault with the line in hand.
+abbrev pub with_line : {T : Type 0} → Result T BoardFault → ℕ → Result T LineFault
 with_line (Ok x) a = Ok x
 with_line (Err f) a = Err (record { fault = f; line = a })
 
@@ -66,14 +77,17 @@ abbrev pub body_in : Result (List ℕ) TreeFault → Outcome Body
 body_in (Ok ws) = ok (row ws)
 body_in (Err f) = err (tree_fault f)
 
--- What opening line a gave: a body, or that the line is corrupt.
-abbrev pub Opened : Maybe (List ℕ) → ℕ → Result (List ℕ) TreeFault → Type 0
-Opened (Some ws) a r = r ≡ Ok ws
-Opened None a r = r ≡ Err (Corrupt a)
-
 -- What a call on this board with these slots works on.
 abbrev pub view_in : Meaning → Table → View
 view_in m t = record { memory = memory_in m.lines; register = register_in m.register; table = t }
+
+-- The layout of a chip's slots, as a shape.
+abbrev pub shape_of : Chip → Shape
+shape_of c = shape_in c.slots.layout
+
+-- What a call on this board with this chip works on.
+abbrev pub view_of : Meaning → Chip → View
+view_of m c = view_in m (table_in c.slots)
 
 -- The board has the lines of h levels, and its register says so.
 pub record Fits (h : ℕ) (m : Meaning) : Type 0 where

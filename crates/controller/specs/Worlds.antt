@@ -14,7 +14,7 @@ use Rattle.machine.specs.History.{cold, opened, latched, World, Event, Answer, n
 use Rattle.machine.specs.History.{Chip as ChipState}
 use Rattle.machine.specs.Promises.{Law, Promises}
 use Rattle.tree.specs.SlotTable.{table_in}
-use Rattle.tree.specs.declared.types.Layout.{Layout}
+use Rattle.machine.specs.declared.layout.Layout.{Layout}
 use Rattle.controller.specs.declared.types.TreeFault.{TreeFault}
 use Rattle.controller.specs.declared.types.TreeFault.TheVariants.{Board, Corrupt, AtLimit, SumMismatch}
 use Rattle.controller.specs.declared.types.Fault.{Fault}
@@ -101,6 +101,16 @@ call_check m lv n =
 abbrev pub LayoutFound : Meaning → ℕ → ℕ → Result Layout Fault → Type 0
 LayoutFound m lv n (Ok l) = (call_check m lv n ≡ none) × Fits l.levels m × (0 < n → l.levels ≡ lv)
 LayoutFound m lv n (Err f) = call_check m lv n ≡ some (fault_of f)
+
+-- Why a call is refused before its steps: the latched fault, or what the check finds.
+abbrev pub refusal : Maybe Fault → Option Why → Option Why
+refusal (Some f) o = some (fault_of f)
+refusal None o = o
+
+-- The layout of a board that no call is refused on before its steps, or why one is.
+abbrev pub Ready : Meaning → Chip → Result Layout Fault → Type 0
+Ready m c (Ok l) = (c.latched ≡ None) × LayoutFound m c.slots.layout.levels c.slots.used (Ok l)
+Ready m c (Err f) = refusal c.latched (call_check m c.slots.layout.levels c.slots.used) ≡ some (fault_of f)
 
 -- The commits that an answer reports.
 abbrev pub commits_of : Answer → ℕ

@@ -24,39 +24,35 @@ use tree::types::{Layout, Slots};
 fn names<S: Suite>(register: &Register, suite: &S) -> bool
     ensures { result ≡ ((S.Suite.scheme suite.now).number == register.now.suite) }
 {
-    S::number_of() == register.suite
+    S::NUMBER == register.suite
 }
 
 // The checks of bring-up before any write, in order: the layout, or why it is refused.
 fn check<B: Board, S: Suite>(board: &B, suite: &S, slots: u64) -> Result<Layout, Fault>
     ensures { Checked (bring_up_check eight_ary slots (S.Suite.scheme suite.now).number (state_in (B.Board.meaning board.now))) slots (B.Board.meaning board.now) result }
 {
-    if slots < 1 {
-        return Err(Fault::BadSlots);
-    }
-    if slots > 64 {
+    if !(1..=64).contains(&slots) {
         return Err(Fault::BadSlots);
     }
     let register = Register::decode(&board.read_register());
     if !register.is_valid() {
         return Err(Fault::InvalidRegister);
     }
-    let Some(layout) = Layout::new(register.levels) else {
-        return Err(Fault::InvalidRegister);
-    };
+    let layout = Layout::new(register.levels).ok_or(Fault::InvalidRegister)?;
     if layout.lines() > board.count() {
         return Err(Fault::TooFewLines);
     }
     if !names(&register, suite) {
         return Err(Fault::OtherSuite);
     }
-    if dirty_nodes(&register.dirty) as u64 > slots {
+    if u64::from(dirty_nodes(&register.dirty)) > slots {
         return Err(Fault::TooManyDirty);
     }
     Ok(layout)
 }
 
 // Writes the journal's line to its address, if there is a journal.
+// It takes no view, since it writes to the board.
 fn write_back<B: Board>(
     board: &mut B,
     layout: Layout,
@@ -69,8 +65,7 @@ fn write_back<B: Board>(
         return Ok(());
     };
     let at = entry.at as usize;
-    at_line(board.write_line(at, entry.line), at)?;
-    Ok(())
+    Ok(at_line(board.write_line(at, entry.line), at)?)
 }
 
 // Checks the board, writes the journal's line back and recovers the dirty nodes: the open chip, or why it is refused.
@@ -80,9 +75,8 @@ fn open_chip<B: Board, S: Suite>(board: &mut B, suite: &S, slots: u64) -> Result
     let layout = check(board, suite, slots)?;
     let register = Register::decode(&board.read_register());
     write_back(board, layout, &register.journal)?;
-    let found = recover(board, suite, layout)?;
     Ok(Chip {
-        slots: found,
+        slots: recover(board, suite, layout)?,
         capacity: slots as usize,
         latched: None,
     })
@@ -118,10 +112,8 @@ impl<B: Board> Cold<B> {
         ensures chip { ChipLeft (B.Board.meaning self.board) result.1 result.0.chip }
         ensures suite { result.0.suite ≡ suite }
     {
-        let Cold { board } = self;
-        let mut board = board;
-        let opened = open_chip(&mut board, &suite, slots);
-        let (chip, answer) = settled(opened);
+        let Cold { mut board } = self;
+        let (chip, answer) = settled(open_chip(&mut board, &suite, slots));
         (Open { board, suite, chip }, answer)
     }
 }

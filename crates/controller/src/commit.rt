@@ -2,18 +2,20 @@ ghost use Rattle.std.specs.Prelude.{◌≡◌, ◌+◌, ◌<◌, ◌≤◌};
 ghost use Rattle.machine.specs.Layout.{counter_limit};
 ghost use Rattle.machine.specs.Store.{line_at};
 ghost use Rattle.machine.specs.Words.{row, line_in, memory_in, register_in};
-ghost use Rattle.machine.specs.Plans.{commit_under, commit as committing};
-ghost use Rattle.tree.specs.Layouts.{shape_in};
+ghost use Rattle.machine.specs.Plans.{counter_of, commit_under, commit as committing};
+ghost use Rattle.machine.specs.Layouts.{shape_in};
 ghost use Rattle.tree.specs.SlotTable.{table_in};
-ghost use Rattle.controller.specs.Views.{view_in, Fits};
+ghost use Rattle.controller.specs.Views.{shape_of, view_of, view_in, outcome_in, Fits};
 ghost use Rattle.controller.specs.Runs.{ended, Went};
-ghost use Rattle.controller.specs.Registers.{Journaled, raised_slots, RoomAt, SmallAt, RegisterRaised};
+ghost use Rattle.controller.specs.Registers.{Journaled, raised_slots, next_counter, RoomAt, SmallAt, RegisterRaised, Rest};
 
-use crate::counters::counter_of;
 use crate::faults::{at_line, line_of};
+use crate::open::Open;
 use crate::types::{LineFault, TreeFault};
+use crate::view::View;
 use board::board::Board;
 use board::types::Line;
+use suite::nonce::Nonce;
 use suite::sealing::{seal_data, seal_node};
 use suite::suite::Suite;
 use tree::counters::LIMIT;
@@ -29,10 +31,14 @@ pub(crate) fn sealed_line<S: Suite>(
 ) -> Line
     ensures { line_in result ≡ line_at (shape_in layout) (S.Suite.scheme suite.now) at counter (row words.now) }
 {
+    let nonce = Nonce {
+        at: at as u64,
+        counter,
+    };
     if at < layout.data_lines() {
-        return seal_data(suite, at as u64, counter, words);
+        return seal_data(suite, nonce, words);
     }
-    seal_node(suite, at as u64, counter, words)
+    seal_node(suite, nonce, words)
 }
 
 // The register's words with a dirty sum, a journal and a dirty map.
@@ -72,51 +78,70 @@ fn raise_at<B: Board>(
     Ok(words)
 }
 
-// Commits `words` at line `at` under `counter`: the register, then the line. The slots are those but for the line's own.
-pub(crate) fn commit_under<B: Board, S: Suite>(
-    board: &mut B,
-    suite: &S,
-    slots: &mut Slots,
-    at: usize,
-    words: &[u64; 8],
-    counter: u64,
-    commits: &mut u64,
-) -> Result<(), TreeFault>
-    requires place { (Fits slots.old.layout.levels (B.Board.meaning board.old)) × ((at < (shape_in slots.old.layout).lines) × (counter ≤ counter_limit)) }
-    requires room { (RoomAt (shape_in slots.old.layout) at slots.old.used (table_in slots.old)) × (SmallAt (shape_in slots.old.layout) at (view_in (B.Board.meaning board.old) (table_in slots.old))) }
-    requires countable { commits.old < 18446744073709551615 }
-    ensures tally { commits.new ≤ commits.old + 1 }
-    ensures went { Went (commit_under (shape_in slots.old.layout) (S.Suite.scheme suite.now) (memory_in (B.Board.meaning board.old).lines) (register_in (B.Board.meaning board.old).register) (table_in slots.old) at (row words.now) counter) (B.Board.meaning board.old) (ended result) (B.Board.meaning board.new) (table_in slots.new) commits.old commits.new }
-    ensures fits { Fits slots.old.layout.levels (B.Board.meaning board.new) }
-    ensures layout { slots.new.layout ≡ slots.old.layout }
-{
-    let line = sealed_line(suite, slots.layout(), at, words, counter);
-    let raised = raise_at(board, slots, at, counter)?;
-    let register = journaled(raised, slots.sum(), at, &line, &slots.dirty_map());
-    at_line(board.write_register(register), at)?;
-    *commits += 1;
-    at_line(board.write_line(at, line), at)?;
-    Ok(())
-}
-
-// Commits a body at line `at` under its next counter.
-pub(crate) fn commit<B: Board, S: Suite>(
-    board: &mut B,
-    suite: &S,
-    slots: &mut Slots,
-    at: usize,
-    words: &[u64; 8],
-    commits: &mut u64,
-) -> Result<(), TreeFault>
-    requires place { (Fits slots.old.layout.levels (B.Board.meaning board.old)) × (at < (shape_in slots.old.layout).lines) }
-    requires room { (RoomAt (shape_in slots.old.layout) at slots.old.used (table_in slots.old)) × (commits.old < 18446744073709551615) }
-    ensures went { Went (committing (shape_in slots.old.layout) (S.Suite.scheme suite.now) (view_in (B.Board.meaning board.old) (table_in slots.old)) (table_in slots.old) at (row words.now)) (B.Board.meaning board.old) (ended result) (B.Board.meaning board.new) (table_in slots.new) commits.old commits.new }
-    ensures fits { Fits slots.old.layout.levels (B.Board.meaning board.new) }
-    ensures layout { slots.new.layout ≡ slots.old.layout }
-{
-    let counter = counter_of(board, suite, slots, slots.layout(), at)?;
-    if counter >= LIMIT {
-        return Err(TreeFault::AtLimit(at));
+impl<B: Board, S: Suite> Open<B, S> {
+    // The counter under which line `at` is committed next.
+    pub(crate) fn next_counter(&self, at: usize) -> Result<u64, TreeFault>
+        requires { (Fits self.now.chip.slots.layout.levels (B.Board.meaning self.now.board)) × (at < (shape_of self.now.chip).lines) }
+        ensures { outcome_in result ≡ next_counter at (counter_of (shape_of self.now.chip) (S.Suite.scheme self.now.suite) (view_of (B.Board.meaning self.now.board) self.now.chip) at) }
+    {
+        let view = View {
+            board: &self.board,
+            suite: &self.suite,
+            slots: &self.chip.slots,
+            layout: self.chip.slots.layout(),
+        };
+        let counter = view.counter_of(at)?;
+        if counter >= LIMIT {
+            return Err(TreeFault::AtLimit(at));
+        }
+        Ok(counter + 1)
     }
-    commit_under(board, suite, slots, at, words, counter + 1, commits)
+
+    // Commits `words` at line `at` under `counter`: the register, then the line. The slots are those but for the line's own.
+    // The commits are counted in the caller's word: a refused call reports them too, and a count in the result would be no plainer, since `?` would lose it.
+    pub(crate) fn commit_under(
+        &mut self,
+        at: usize,
+        words: &[u64; 8],
+        counter: u64,
+        commits: &mut u64,
+    ) -> Result<(), TreeFault>
+        requires place { (Fits self.old.chip.slots.layout.levels (B.Board.meaning self.old.board)) × ((at < (shape_of self.old.chip).lines) × (counter ≤ counter_limit)) }
+        requires room { (RoomAt (shape_of self.old.chip) at self.old.chip.slots.used (table_in self.old.chip.slots)) × (SmallAt (shape_of self.old.chip) at (view_of (B.Board.meaning self.old.board) self.old.chip)) }
+        requires countable { commits.old < 18446744073709551615 }
+        ensures tally { commits.new ≤ commits.old + 1 }
+        ensures went { Went (commit_under (shape_of self.old.chip) (S.Suite.scheme self.old.suite) (memory_in (B.Board.meaning self.old.board).lines) (register_in (B.Board.meaning self.old.board).register) (table_in self.old.chip.slots) at (row words.now) counter) (B.Board.meaning self.old.board) (ended result) (B.Board.meaning self.new.board) (table_in self.new.chip.slots) commits.old commits.new }
+        ensures fits { Fits self.new.chip.slots.layout.levels (B.Board.meaning self.new.board) }
+        ensures rest { Rest self.old.suite self.old.chip self.new.suite self.new.chip }
+    {
+        let line = sealed_line(&self.suite, self.chip.slots.layout(), at, words, counter);
+        let raised = raise_at(&self.board, &mut self.chip.slots, at, counter)?;
+        let register = journaled(
+            raised,
+            self.chip.slots.sum(),
+            at,
+            &line,
+            &self.chip.slots.dirty_map(),
+        );
+        at_line(self.board.write_register(register), at)?;
+        *commits += 1;
+        at_line(self.board.write_line(at, line), at)?;
+        Ok(())
+    }
+
+    // Commits a body at line `at` under its next counter.
+    pub(crate) fn commit(
+        &mut self,
+        at: usize,
+        words: &[u64; 8],
+        commits: &mut u64,
+    ) -> Result<(), TreeFault>
+        requires place { (Fits self.old.chip.slots.layout.levels (B.Board.meaning self.old.board)) × (at < (shape_of self.old.chip).lines) }
+        requires room { (RoomAt (shape_of self.old.chip) at self.old.chip.slots.used (table_in self.old.chip.slots)) × (commits.old < 18446744073709551615) }
+        ensures went { Went (committing (shape_of self.old.chip) (S.Suite.scheme self.old.suite) (view_of (B.Board.meaning self.old.board) self.old.chip) (table_in self.old.chip.slots) at (row words.now)) (B.Board.meaning self.old.board) (ended result) (B.Board.meaning self.new.board) (table_in self.new.chip.slots) commits.old commits.new }
+        ensures rest { Rest self.old.suite self.old.chip self.new.suite self.new.chip }
+    {
+        let counter = self.next_counter(at)?;
+        self.commit_under(at, words, counter, commits)
+    }
 }

@@ -1,49 +1,64 @@
 ghost use Rattle.std.specs.Prelude.{◌≡◌, ◌<◌};
-ghost use Rattle.machine.specs.Plans.{counter_of};
+ghost use Rattle.machine.specs.Plans.{counter_of, read_call};
 ghost use Rattle.machine.specs.Words.{line_in};
-ghost use Rattle.tree.specs.Layouts.{shape_in};
+ghost use Rattle.machine.specs.Layouts.{shape_in};
 ghost use Rattle.tree.specs.SlotTable.{table_in};
-ghost use Rattle.controller.specs.Views.{view_in, outcome_in, Fits, node_line_valid};
+ghost use Rattle.controller.specs.Views.{view_in, outcome_in, body_in, node_line_valid};
 
 use crate::faults::line_of;
 use crate::types::TreeFault;
+use crate::view::View;
 use board::board::Board;
 use board::types::Line;
-use suite::sealing::is_right;
+use suite::nonce::Nonce;
+use suite::sealing::{is_right, open_data};
 use suite::suite::Suite;
 use tree::counters::within_limit;
-use tree::types::{Layout, Slots};
 
-// Whether a node's line has the right tag under its counter, and counters within the limit.
-pub(crate) fn node_valid<S: Suite>(suite: &S, at: usize, line: &Line, counter: u64) -> bool
-    ensures { result ≡ node_line_valid (S.Suite.scheme suite.now) at counter (line_in line.now) }
+// Whether a node's line has the right tag, and counters within the limit.
+pub(crate) fn node_valid<S: Suite>(suite: &S, nonce: Nonce, line: &Line) -> bool
+    ensures { result ≡ node_line_valid (S.Suite.scheme suite.now) nonce.at nonce.counter (line_in line.now) }
 {
-    is_right(suite, at as u64, line, counter) && within_limit(&line.body)
+    is_right(suite, nonce, line) && within_limit(&line.body)
 }
 
-// The current counter of line `at`: in the root, in a slot, or in the parent's line once the way down to it is checked.
-pub(crate) fn counter_of<B: Board, S: Suite>(
-    board: &B,
-    suite: &S,
-    slots: &Slots,
-    layout: Layout,
-    at: usize,
-) -> Result<u64, TreeFault>
-    requires { (Fits layout.levels (B.Board.meaning board.now)) × (at < (shape_in layout).lines) }
-    ensures { outcome_in result ≡ counter_of (shape_in layout) (S.Suite.scheme suite.now) (view_in (B.Board.meaning board.now) (table_in slots.now)) at }
-{
-    let parent = layout.parent(at);
-    let index = layout.index(at);
-    if parent >= layout.lines() {
-        return Ok(board.read_register()[3 + index]);
+impl<B: Board, S: Suite> View<'_, B, S> {
+    // The current counter of line `at`: in the root, in a slot, or in the parent's line once the way down to it is checked.
+    pub(crate) fn counter_of(&self, at: usize) -> Result<u64, TreeFault>
+        requires { at < (shape_in self.now.layout).lines }
+        ensures { outcome_in result ≡ counter_of (shape_in self.now.layout) (S.Suite.scheme self.now.suite.now) (view_in (B.Board.meaning self.now.board.now) (table_in self.now.slots.now)) at }
+    {
+        let parent = self.layout.parent(at);
+        let index = self.layout.index(at);
+        if parent >= self.layout.lines() {
+            return Ok(self.board.read_register()[3 + index]);
+        }
+        if let Some(counter) = self.slots.counter(parent, index) {
+            return Ok(counter);
+        }
+        let counter = self.counter_of(parent)?;
+        let line = line_of(self.board, parent)?;
+        let nonce = Nonce {
+            at: parent as u64,
+            counter,
+        };
+        if !node_valid(self.suite, nonce, &line) {
+            return Err(TreeFault::Corrupt(parent));
+        }
+        Ok(line.body[index])
     }
-    if let Some(counter) = slots.counter(parent, index) {
-        return Ok(counter);
+
+    // The body of data line `at`, its way down and its own line checked.
+    pub(crate) fn data_body(&self, at: usize) -> Result<[u64; 8], TreeFault>
+        requires { at < (shape_in self.now.layout).data_lines }
+        ensures { body_in result ≡ read_call (shape_in self.now.layout) (S.Suite.scheme self.now.suite.now) (view_in (B.Board.meaning self.now.board.now) (table_in self.now.slots.now)) at }
+    {
+        let counter = self.counter_of(at)?;
+        let line = line_of(self.board, at)?;
+        let nonce = Nonce {
+            at: at as u64,
+            counter,
+        };
+        open_data(self.suite, nonce, &line).ok_or(TreeFault::Corrupt(at))
     }
-    let counter = counter_of(board, suite, slots, layout, parent)?;
-    let line = line_of(board, parent)?;
-    if !node_valid(suite, parent, &line, counter) {
-        return Err(TreeFault::Corrupt(parent));
-    }
-    Ok(line.body[index])
 }

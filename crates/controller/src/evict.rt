@@ -1,95 +1,85 @@
 ghost use Rattle.std.specs.Prelude.{◌≡◌, ◌+◌, ◌-◌, ◌<◌, ◌≤◌, true, false};
-ghost use Rattle.machine.specs.Plans.{is_dirty, overdue, evict_now, evict as evicting, evict_until};
-ghost use Rattle.tree.specs.Layouts.{shape_in};
+ghost use Rattle.std.proofs.Math.Option.{none};
+ghost use Rattle.machine.specs.Plans.{is_dirty, overdue, evict_now, evict as evicting, evict_overdue, evict_until};
 ghost use Rattle.tree.specs.SlotTable.{table_in};
-ghost use Rattle.controller.specs.Views.{view_in, Fits};
+ghost use Rattle.controller.specs.Views.{shape_of, view_of, Fits};
 ghost use Rattle.controller.specs.Runs.{ended, Went};
-ghost use Rattle.controller.specs.Registers.{LeftSlot, Freed};
+ghost use Rattle.controller.specs.Registers.{LeftSlot, SameBelow, Freed, Rest};
 
-use crate::commit::commit_under;
-use crate::counters::counter_of;
+use crate::open::Open;
 use crate::types::TreeFault;
 use board::board::Board;
 use suite::suite::Suite;
-use tree::counters::LIMIT;
-use tree::types::Slots;
 
-// Commits the line of dirty node `at`, which leaves its slot.
-fn evict_now<B: Board, S: Suite>(
-    board: &mut B,
-    suite: &S,
-    slots: &mut Slots,
-    at: usize,
-    commits: &mut u64,
-) -> Result<(), TreeFault>
-    requires node { (Fits slots.old.layout.levels (B.Board.meaning board.old)) × ((at < (shape_in slots.old.layout).lines) × (is_dirty (table_in slots.old at) ≡ true)) }
-    requires parent { (shape_in slots.old.layout).parent at < (shape_in slots.old.layout).lines → overdue (table_in slots.old ((shape_in slots.old.layout).parent at)) ≡ false }
-    requires countable { commits.old < 18446744073709551615 }
-    ensures tally { commits.new ≤ commits.old + 1 }
-    ensures went { Went (evict_now (shape_in slots.old.layout) (S.Suite.scheme suite.now) (view_in (B.Board.meaning board.old) (table_in slots.old)) at) (B.Board.meaning board.old) (ended result) (B.Board.meaning board.new) (table_in slots.new) commits.old commits.new }
-    ensures fits { Fits slots.old.layout.levels (B.Board.meaning board.new) }
-    ensures layout { slots.new.layout ≡ slots.old.layout }
-    ensures out { LeftSlot (shape_in slots.old.layout) at (table_in slots.old) (ended result) (table_in slots.new) }
-{
-    let counter = counter_of(board, suite, slots, slots.layout(), at)?;
-    if counter >= LIMIT {
-        return Err(TreeFault::AtLimit(at));
-    }
-    let Some(counters) = slots.remove(at) else {
-        return Ok(());
-    };
-    commit_under(board, suite, slots, at, &counters, counter + 1, commits)
-}
-
-// Evicts dirty node `at`: an overdue parent first.
-pub(crate) fn evict<B: Board, S: Suite>(
-    board: &mut B,
-    suite: &S,
-    slots: &mut Slots,
-    at: usize,
-    commits: &mut u64,
-) -> Result<(), TreeFault>
-    requires node { (Fits slots.old.layout.levels (B.Board.meaning board.old)) × ((at < (shape_in slots.old.layout).lines) × (is_dirty (table_in slots.old at) ≡ true)) }
-    requires countable { commits.old + ((shape_in slots.old.layout).lines - at) ≤ 18446744073709551615 }
-    ensures tally { commits.new ≤ commits.old + ((shape_in slots.old.layout).lines - at) }
-    ensures went { Went (evicting (shape_in slots.old.layout) (S.Suite.scheme suite.now) (view_in (B.Board.meaning board.old) (table_in slots.old)) at) (B.Board.meaning board.old) (ended result) (B.Board.meaning board.new) (table_in slots.new) commits.old commits.new }
-    ensures fits { Fits slots.old.layout.levels (B.Board.meaning board.new) }
-    ensures layout { slots.new.layout ≡ slots.old.layout }
-    ensures out { LeftSlot (shape_in slots.old.layout) at (table_in slots.old) (ended result) (table_in slots.new) }
-{
-    let layout = slots.layout();
-    let parent = layout.parent(at);
-    if parent < layout.lines() && slots.overdue(parent) {
-        evict(board, suite, slots, parent, commits)?;
-        return evict_now(board, suite, slots, at, commits);
-    }
-    evict_now(board, suite, slots, at, commits)
-}
-
-// Evicts the dirty node of lowest address until at most `keep` are dirty.
-pub(crate) fn evict_until<B: Board, S: Suite>(
-    board: &mut B,
-    suite: &S,
-    slots: &mut Slots,
-    keep: usize,
-    commits: &mut u64,
-) -> Result<(), TreeFault>
-    requires { (Fits slots.old.layout.levels (B.Board.meaning board.old)) × (commits.old ≤ 1099511627776) }
-    ensures tally { commits.new ≤ commits.old + 21902400 }
-    ensures freed { Freed (shape_in slots.old.layout) keep (table_in slots.old) (ended result) slots.new.used (table_in slots.new) }
-    ensures went { Went (evict_until (shape_in slots.old.layout) (S.Suite.scheme suite.now) keep (shape_in slots.old.layout).lines (view_in (B.Board.meaning board.old) (table_in slots.old))) (B.Board.meaning board.old) (ended result) (B.Board.meaning board.new) (table_in slots.new) commits.old commits.new }
-    ensures fits { Fits slots.old.layout.levels (B.Board.meaning board.new) }
-    ensures layout { slots.new.layout ≡ slots.old.layout }
-{
-    let turns = slots.layout().lines();
-    for i in 0..turns {
-        if slots.used() <= keep {
-            return Ok(());
-        }
-        let Some(at) = slots.lowest() else {
-            return Ok(());
+impl<B: Board, S: Suite> Open<B, S> {
+    // Commits the line of dirty node `at`, which leaves its slot.
+    fn evict_now(&mut self, at: usize, commits: &mut u64) -> Result<(), TreeFault>
+        requires node { (Fits self.old.chip.slots.layout.levels (B.Board.meaning self.old.board)) × ((at < (shape_of self.old.chip).lines) × (is_dirty (table_in self.old.chip.slots at) ≡ true)) }
+        requires parent { (shape_of self.old.chip).parent at < (shape_of self.old.chip).lines → overdue (table_in self.old.chip.slots ((shape_of self.old.chip).parent at)) ≡ false }
+        requires countable { commits.old < 18446744073709551615 }
+        ensures tally { commits.new ≤ commits.old + 1 }
+        ensures went { Went (evict_now (shape_of self.old.chip) (S.Suite.scheme self.old.suite) (view_of (B.Board.meaning self.old.board) self.old.chip) at) (B.Board.meaning self.old.board) (ended result) (B.Board.meaning self.new.board) (table_in self.new.chip.slots) commits.old commits.new }
+        ensures fits { Fits self.new.chip.slots.layout.levels (B.Board.meaning self.new.board) }
+        ensures rest { Rest self.old.suite self.old.chip self.new.suite self.new.chip }
+        ensures out { LeftSlot (shape_of self.old.chip) at (table_in self.old.chip.slots) (ended result) (table_in self.new.chip.slots) }
+    {
+        let counter = self.next_counter(at)?;
+        let Some(counters) = self.chip.slots.remove(at) else {
+            unreachable!()
         };
-        evict(board, suite, slots, at, commits)?;
+        self.commit_under(at, &counters, counter, commits)
     }
-    Ok(())
+
+    // Evicts dirty node `at`: an overdue parent first.
+    #[cycle(eviction)]
+    fn evict(&mut self, at: usize, commits: &mut u64) -> Result<(), TreeFault>
+        requires node { (Fits self.old.chip.slots.layout.levels (B.Board.meaning self.old.board)) × ((at < (shape_of self.old.chip).lines) × (is_dirty (table_in self.old.chip.slots at) ≡ true)) }
+        requires countable { commits.old + ((shape_of self.old.chip).lines - at) ≤ 18446744073709551615 }
+        ensures tally { commits.new ≤ commits.old + ((shape_of self.old.chip).lines - at) }
+        ensures went { Went (evicting (shape_of self.old.chip) (S.Suite.scheme self.old.suite) (view_of (B.Board.meaning self.old.board) self.old.chip) at) (B.Board.meaning self.old.board) (ended result) (B.Board.meaning self.new.board) (table_in self.new.chip.slots) commits.old commits.new }
+        ensures fits { Fits self.new.chip.slots.layout.levels (B.Board.meaning self.new.board) }
+        ensures rest { Rest self.old.suite self.old.chip self.new.suite self.new.chip }
+        ensures out { LeftSlot (shape_of self.old.chip) at (table_in self.old.chip.slots) (ended result) (table_in self.new.chip.slots) }
+    {
+        let parent = self.chip.slots.layout().parent(at);
+        self.evict_overdue(parent, commits)?;
+        self.evict_now(at, commits)
+    }
+
+    // Evicts node `at` if it is overdue.
+    #[cycle(eviction)]
+    pub(crate) fn evict_overdue(&mut self, at: usize, commits: &mut u64) -> Result<(), TreeFault>
+        requires fits { Fits self.old.chip.slots.layout.levels (B.Board.meaning self.old.board) }
+        requires countable { commits.old + ((shape_of self.old.chip).lines - at) ≤ 18446744073709551615 }
+        ensures tally { commits.new ≤ commits.old + ((shape_of self.old.chip).lines - at) }
+        ensures went { Went (evict_overdue (shape_of self.old.chip) (S.Suite.scheme self.old.suite) (view_of (B.Board.meaning self.old.board) self.old.chip) at) (B.Board.meaning self.old.board) (ended result) (B.Board.meaning self.new.board) (table_in self.new.chip.slots) commits.old commits.new }
+        ensures fits { Fits self.new.chip.slots.layout.levels (B.Board.meaning self.new.board) }
+        ensures rest { Rest self.old.suite self.old.chip self.new.suite self.new.chip }
+        ensures rested { ended result ≡ none → overdue (table_in self.new.chip.slots at) ≡ false }
+        ensures below { SameBelow at (table_in self.old.chip.slots) (ended result) (table_in self.new.chip.slots) }
+    {
+        if self.chip.slots.overdue(at) {
+            self.evict(at, commits)
+        } else {
+            Ok(())
+        }
+    }
+
+    // Evicts the dirty node of lowest address until at most `keep` are dirty.
+    pub(crate) fn evict_until(&mut self, keep: usize, commits: &mut u64) -> Result<(), TreeFault>
+        requires { (Fits self.old.chip.slots.layout.levels (B.Board.meaning self.old.board)) × (commits.old ≤ 1099511627776) }
+        ensures tally { commits.new ≤ commits.old + 21902400 }
+        ensures freed { Freed (shape_of self.old.chip) keep (table_in self.old.chip.slots) (ended result) self.new.chip.slots.used (table_in self.new.chip.slots) }
+        ensures went { Went (evict_until (shape_of self.old.chip) (S.Suite.scheme self.old.suite) keep (shape_of self.old.chip).lines (view_of (B.Board.meaning self.old.board) self.old.chip)) (B.Board.meaning self.old.board) (ended result) (B.Board.meaning self.new.board) (table_in self.new.chip.slots) commits.old commits.new }
+        ensures fits { Fits self.new.chip.slots.layout.levels (B.Board.meaning self.new.board) }
+        ensures rest { Rest self.old.suite self.old.chip self.new.suite self.new.chip }
+    {
+        while self.chip.slots.used() > keep {
+            let Some(at) = self.chip.slots.lowest() else {
+                unreachable!()
+            };
+            self.evict(at, commits)?;
+        }
+        Ok(())
+    }
 }

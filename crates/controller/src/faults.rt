@@ -1,10 +1,10 @@
 ghost use Rattle.std.specs.Prelude.{◌≡◌};
 ghost use Rattle.machine.specs.Faults.{number, layer as layer_of};
-ghost use Rattle.controller.specs.Views.{fault_of, with_line, LineAt, controller_says};
+ghost use Rattle.controller.specs.Views.{fault_of, layer_number, with_line, LineAt, controller_says};
 ghost use Rattle.controller.specs.declared.types.TreeFault.TheVariants.{Board as OfBoard};
 ghost use Rattle.controller.specs.declared.types.Fault.TheVariants.{Tree as OfTree};
 
-use crate::types::{Fault, LineFault, TreeFault};
+use crate::types::{Fault, Layer, LineFault, TreeFault};
 use board::board::Board;
 use board::types::{BoardFault, Line};
 
@@ -21,6 +21,18 @@ impl From<TreeFault> for Fault {
 
     fn from(f: TreeFault) -> Fault {
         Fault::Tree(f)
+    }
+}
+
+impl From<Layer> for u64 {
+    ghost from_gives = { λ layer n. n ≡ layer_number layer };
+
+    fn from(layer: Layer) -> u64 {
+        match layer {
+            Layer::Board => 1,
+            Layer::Tree => 2,
+            Layer::Controller => 3,
+        }
     }
 }
 
@@ -46,12 +58,12 @@ impl LineFault {
     }
 
     // The layer: a missing line is the controller's to report.
-    fn layer(&self) -> u64
-        ensures { result ≡ layer_of (fault_of (OfTree (OfBoard self.now))).cause }
+    fn met_by(&self) -> Layer
+        ensures { layer_number result ≡ layer_of (fault_of (OfTree (OfBoard self.now))).cause }
     {
         match self.fault {
-            BoardFault::Absent => 3,
-            BoardFault::PowerLost => 1,
+            BoardFault::Absent => Layer::Controller,
+            BoardFault::PowerLost => Layer::Board,
         }
     }
 }
@@ -75,35 +87,31 @@ impl TreeFault {
     {
         match self {
             TreeFault::Board(f) => f.place(),
-            TreeFault::Corrupt(at) => *at as u64,
+            TreeFault::Corrupt(at) | TreeFault::AtLimit(at) => *at as u64,
             TreeFault::SumMismatch => 0,
-            TreeFault::AtLimit(at) => *at as u64,
         }
     }
 
     // The layer that met the cause.
-    fn layer(&self) -> u64
-        ensures { result ≡ layer_of (fault_of (OfTree self.now)).cause }
+    fn met_by(&self) -> Layer
+        ensures { layer_number result ≡ layer_of (fault_of (OfTree self.now)).cause }
     {
         match self {
-            TreeFault::Board(f) => f.layer(),
-            TreeFault::Corrupt(_) => 2,
-            TreeFault::SumMismatch => 2,
-            TreeFault::AtLimit(_) => 2,
+            TreeFault::Board(f) => f.met_by(),
+            TreeFault::Corrupt(_) | TreeFault::SumMismatch | TreeFault::AtLimit(_) => Layer::Tree,
         }
     }
 }
 
 impl Fault {
-    // The number that the fault is reported by, from 1 to 11.
+    // The number that the fault is reported by, from 1 to 11; the kinds are the variants.
     pub fn cause(&self) -> u64
         ensures { result ≡ number (fault_of self.now).cause }
     {
         match self {
             Fault::Tree(f) => f.cause(),
             Fault::NotData(_) => 1,
-            Fault::BadLevels => 2,
-            Fault::BadSlots => 2,
+            Fault::BadLevels | Fault::BadSlots => 2,
             Fault::TooFewLines => 3,
             Fault::InvalidRegister => 4,
             Fault::AlreadyFormatted => 5,
@@ -123,41 +131,41 @@ impl Fault {
         }
     }
 
-    // The layer that met the cause: 1 the board, 2 the tree, 3 the controller.
+    // The layer that met the cause.
+    pub fn met_by(&self) -> Layer
+        ensures { layer_number result ≡ layer_of (fault_of self.now).cause }
+    {
+        match self {
+            Fault::Tree(f) => f.met_by(),
+            _ => Layer::Controller,
+        }
+    }
+
+    // The number of that layer: 1 the board, 2 the tree, 3 the controller.
     pub fn layer(&self) -> u64
         ensures { result ≡ layer_of (fault_of self.now).cause }
     {
-        match self {
-            Fault::Tree(f) => f.layer(),
-            _ => 3,
-        }
+        u64::from(self.met_by())
     }
 }
 
-// A board's answer to a write, its fault with the line in hand.
-pub(crate) fn at_line(r: Result<(), BoardFault>, line: usize) -> Result<(), LineFault>
+// A board's answer, its fault with the line in hand.
+pub(crate) fn at_line<T>(r: Result<T, BoardFault>, line: usize) -> Result<T, LineFault>
     ensures { result ≡ with_line r line }
 {
-    match r {
-        Ok(u) => Ok(u),
-        Err(fault) => Err(LineFault { fault, line }),
-    }
+    r.map_err(|fault| LineFault { fault, line })
 }
 
 // The line at an address.
 pub(crate) fn line_of<B: Board>(board: &B, at: usize) -> Result<Line, LineFault>
     ensures { LineAt (B.Board.meaning board.now) at result }
 {
-    match board.read_line(at) {
-        Ok(line) => Ok(line),
-        Err(fault) => Err(LineFault { fault, line: at }),
-    }
+    at_line(board.read_line(at), at)
 }
 
 // What the controller says of the tree's answer.
 pub(crate) fn answer(r: Result<(), TreeFault>) -> Result<(), Fault>
     ensures { result ≡ controller_says r }
 {
-    r?;
-    Ok(())
+    Ok(r?)
 }

@@ -3,7 +3,7 @@ ghost use Rattle.suite.specs.Scheme.{Scheme};
 ghost use Rattle.machine.specs.Words.{row};
 ghost use Rattle.machine.specs.Plans.{blank_lines, format_writes};
 ghost use Rattle.machine.specs.History.{format as formatting};
-ghost use Rattle.tree.specs.Layouts.{shape_in};
+ghost use Rattle.machine.specs.Layouts.{shape_in};
 ghost use Rattle.controller.specs.Runs.{ended, Wrote};
 ghost use Rattle.controller.specs.Registers.{new_words};
 ghost use Rattle.controller.specs.Worlds.{Keeps, cold_in, report_by, Formats, RegisterMade};
@@ -13,6 +13,7 @@ use crate::commit::sealed_line;
 use crate::faults::{answer, at_line};
 use crate::types::{Fault, TreeFault};
 use board::board::Board;
+use machine::types::Register;
 use suite::suite::Suite;
 use tree::types::Layout;
 
@@ -20,12 +21,16 @@ use tree::types::Layout;
 fn new_register(layout: Layout, number: u64) -> [u64; 32]
     ensures { result ≡ new_words layout.levels number }
 {
-    let mut words = [0u64; 32];
-    words[0] = 1;
-    words[1] = layout.levels() as u64;
-    words[2] = number;
-    words[12] = 18_446_744_073_709_551_615;
-    words
+    let register = Register {
+        formatted: 1,
+        levels: layout.levels() as u64,
+        suite: number,
+        roots: [0; 8],
+        dirty_sum: 0,
+        journal: None,
+        dirty: [0; 10],
+    };
+    register.encode()
 }
 
 // Writes each line with zeros under counter 0, from 0 up.
@@ -38,10 +43,9 @@ fn write_blank_lines<B: Board, S: Suite>(
     ensures wrote { Wrote (blank_lines (shape_in layout) (S.Suite.scheme suite.now) (shape_in layout).lines) (B.Board.meaning board.old) (ended result) (B.Board.meaning board.new) }
     ensures register { (B.Board.meaning board.new).register ≡ (B.Board.meaning board.old).register }
 {
-    let zeros = [0u64; 8];
-    for i in 0..layout.lines() {
-        let line = sealed_line(suite, layout, i, &zeros, 0);
-        at_line(board.write_line(i, line), i)?;
+    for at in 0..layout.lines() {
+        let line = sealed_line(suite, layout, at, &[0; 8], 0);
+        at_line(board.write_line(at, line), at)?;
     }
     Ok(())
 }
@@ -57,11 +61,8 @@ fn write_format<B: Board, S: Suite>(
     ensures register { RegisterMade layout.levels (S.Suite.scheme suite.now).number (B.Board.meaning board.old).register result (B.Board.meaning board.new).register }
 {
     write_blank_lines(board, suite, layout)?;
-    at_line(
-        board.write_register(new_register(layout, S::number_of())),
-        0,
-    )?;
-    Ok(())
+    let register = new_register(layout, S::NUMBER);
+    Ok(at_line(board.write_register(register), 0)?)
 }
 
 impl<B: Board> Cold<B> {
@@ -73,16 +74,13 @@ impl<B: Board> Cold<B> {
         ensures does { Formats (S.Suite.scheme suite.now) levels (B.Board.meaning self.old.board) (report_by result 0) (B.Board.meaning self.new.board) }
         ensures register { RegisterMade levels (S.Suite.scheme suite.now).number (B.Board.meaning self.old.board).register result (B.Board.meaning self.new.board).register }
     {
-        let Some(layout) = Layout::new(levels) else {
-            return Err(Fault::BadLevels);
-        };
+        let layout = Layout::new(levels).ok_or(Fault::BadLevels)?;
         if layout.lines() > self.board.count() {
             return Err(Fault::TooFewLines);
         }
         if self.board.read_register()[0] != 0 {
             return Err(Fault::AlreadyFormatted);
         }
-        let r = write_format(&mut self.board, suite, layout);
-        answer(r)
+        answer(write_format(&mut self.board, suite, layout))
     }
 }

@@ -11,14 +11,11 @@ pub(crate) fn latch(r: &Result<(), TreeFault>) -> Option<Fault>
     ensures { result ≡ latch_of r.now }
 {
     match *r {
-        Ok(_) => None,
-        Err(TreeFault::Corrupt(_)) => None,
-        Err(TreeFault::AtLimit(_)) => None,
-        Err(TreeFault::SumMismatch) => None,
         Err(TreeFault::Board(f)) => match f.fault {
-            BoardFault::Absent => None,
             BoardFault::PowerLost => Some(Fault::Tree(TreeFault::Board(f))),
+            BoardFault::Absent => None,
         },
+        _ => None,
     }
 }
 

@@ -16,4 +16,5 @@ pub mod outside;
 mod restore;
 pub mod script;
 pub mod types;
+mod view;
 mod write;

@@ -21,14 +21,6 @@ fn put_line<B: Tamper>(board: &mut B, at: usize, line: Line) -> bool
     board.put(at, line)
 }
 
-// Sets the power anew.
-fn set_power<B: Recharge>(board: &mut B, left: Option<u64>)
-    ensures power { Recharged (B.Board.meaning board.old) (B.Recharge.supply board.old) left (B.Board.meaning board.new) }
-    ensures supply { B.Recharge.supply board.new ≡ B.Recharge.supply board.old }
-{
-    board.recharge(left)
-}
-
 impl<B: Tamper, S: Suite> Open<B, S> {
     // Puts a line in place from outside; false where the board has no such line. The chip knows nothing of it.
     pub fn tamper(&mut self, at: usize, line: Line) -> bool
@@ -58,6 +50,6 @@ impl<B: Recharge> Cold<B> {
         ensures power { Recharged (B.Board.meaning self.old.board) (B.Recharge.supply self.old.board) left (B.Board.meaning self.new.board) }
         ensures supply { B.Recharge.supply self.new.board ≡ B.Recharge.supply self.old.board }
     {
-        set_power(&mut self.board, left)
+        self.board.recharge(left)
     }
 }

@@ -1,53 +1,24 @@
 ghost use Rattle.std.specs.Prelude.{◌≡◌, ◌-◌, ◌<◌, ◌≤◌, ◌==◌};
 ghost use Rattle.machine.specs.Words.{row, line_in, memory_in, register_in};
 ghost use Rattle.machine.specs.Plans.{map_count, sum_of, restore_node, restore as restore_plan, recover as recover_plan};
-ghost use Rattle.tree.specs.Layouts.{shape_in};
+ghost use Rattle.machine.specs.Layouts.{shape_in};
 ghost use Rattle.tree.specs.SlotTable.{table_in, no_slots, map_in};
 ghost use Rattle.controller.specs.Views.{view_in, Fits};
 ghost use Rattle.controller.specs.Restores.{child_line_valid, ChildRestored, slot_outcome, from_children, SlotOf, map_below, Restores, Recovers};
 
-use crate::counters::{counter_of, node_valid};
+use crate::counters::node_valid;
 use crate::faults::line_of;
 use crate::types::TreeFault;
+use crate::view::View;
 use board::board::Board;
 use board::types::Line;
 use machine::counter::restore_counter;
 use machine::types::Register;
+use suite::nonce::Nonce;
 use suite::sealing::is_right;
 use suite::suite::Suite;
 use tree::dirty_map::highest_below;
 use tree::types::{Layout, Slot, Slots};
-
-// Whether a child's line is right under its restored counter.
-fn child_valid<S: Suite>(suite: &S, layout: Layout, at: usize, line: &Line, counter: u64) -> bool
-    ensures { result ≡ child_line_valid (S.Suite.scheme suite.now) (shape_in layout) at counter (line_in line.now) }
-{
-    if at < layout.data_lines() {
-        return is_right(suite, at as u64, line, counter);
-    }
-    node_valid(suite, at, line, counter)
-}
-
-// The counter of child `at`, from the one that its parent's line stores and the low bits of its own tag.
-fn restore_child<B: Board, S: Suite>(
-    board: &B,
-    suite: &S,
-    layout: Layout,
-    at: usize,
-    stored: u64,
-) -> Result<u64, TreeFault>
-    requires { (Fits layout.levels (B.Board.meaning board.now)) × (at < (shape_in layout).lines) }
-    ensures { ChildRestored (S.Suite.scheme suite.now) (shape_in layout) at stored (memory_in (B.Board.meaning board.now).lines at) result }
-{
-    let line = line_of(board, at)?;
-    let Some(counter) = restore_counter(stored, line.tag) else {
-        return Err(TreeFault::Corrupt(at));
-    };
-    if !child_valid(suite, layout, at, &line, counter) {
-        return Err(TreeFault::Corrupt(at));
-    }
-    Ok(counter)
-}
 
 // How far a counter moved from the stored one.
 fn moved(stored: u64, counter: u64) -> u64
@@ -57,55 +28,76 @@ fn moved(stored: u64, counter: u64) -> u64
     counter - stored
 }
 
-// The slot of node `at` from its stored counters and its children, or the first child that is corrupt.
-fn slot_from<B: Board, S: Suite>(
-    board: &B,
-    suite: &S,
-    layout: Layout,
-    at: usize,
-    stored: &[u64; 8],
-) -> Result<Slot, TreeFault>
-    requires place { (Fits layout.levels (B.Board.meaning board.now)) × (((shape_in layout).data_lines ≤ at) × (at < (shape_in layout).lines)) }
-    requires own_counters { row stored.now ≡ (memory_in (B.Board.meaning board.now).lines at).words }
-    ensures value { slot_outcome result ≡ from_children (shape_in layout) (S.Suite.scheme suite.now) (memory_in (B.Board.meaning board.now).lines) at }
-    ensures slot { SlotOf at result }
-{
-    let first = layout.first_child(at);
-    let mut counters = [0; 8];
-    let mut pending = 0;
-    for i in 0..8 {
-        let counter = restore_child(board, suite, layout, first + i, stored[i])?;
-        counters[i] = counter;
-        pending += moved(stored[i], counter);
+impl<B: Board, S: Suite> View<'_, B, S> {
+    // Whether a child's line is right under its restored counter.
+    fn child_valid(&self, at: usize, line: &Line, counter: u64) -> bool
+        ensures { result ≡ child_line_valid (S.Suite.scheme self.now.suite.now) (shape_in self.now.layout) at counter (line_in line.now) }
+    {
+        let nonce = Nonce {
+            at: at as u64,
+            counter,
+        };
+        if at < self.layout.data_lines() {
+            return is_right(self.suite, nonce, line);
+        }
+        node_valid(self.suite, nonce, line)
     }
-    Ok(Slot {
-        address: at,
-        counters,
-        pending,
-    })
-}
 
-// Restores node `at`: its way down and own line are checked, then its children.
-fn restore_node<B: Board, S: Suite>(
-    board: &B,
-    suite: &S,
-    slots: &Slots,
-    layout: Layout,
-    at: usize,
-) -> Result<Slot, TreeFault>
-    requires { (Fits layout.levels (B.Board.meaning board.now)) × (((shape_in layout).data_lines ≤ at) × (at < (shape_in layout).lines)) }
-    ensures value { slot_outcome result ≡ restore_node (shape_in layout) (S.Suite.scheme suite.now) (view_in (B.Board.meaning board.now) (table_in slots.now)) at }
-    ensures slot { SlotOf at result }
-{
-    let counter = counter_of(board, suite, slots, layout, at)?;
-    let line = line_of(board, at)?;
-    if !node_valid(suite, at, &line, counter) {
-        return Err(TreeFault::Corrupt(at));
+    // The counter of child `at`, from the one that its parent's line stores and the low bits of its own tag.
+    fn restore_child(&self, at: usize, stored: u64) -> Result<u64, TreeFault>
+        requires { at < (shape_in self.now.layout).lines }
+        ensures { ChildRestored (S.Suite.scheme self.now.suite.now) (shape_in self.now.layout) at stored (memory_in (B.Board.meaning self.now.board.now).lines at) result }
+    {
+        let line = line_of(self.board, at)?;
+        match restore_counter(stored, line.tag) {
+            Some(counter) if self.child_valid(at, &line, counter) => Ok(counter),
+            _ => Err(TreeFault::Corrupt(at)),
+        }
     }
-    slot_from(board, suite, layout, at, &line.body)
+
+    // The slot of node `at` from its stored counters and its children, or the first child that is corrupt.
+    fn slot_from(&self, at: usize, stored: &[u64; 8]) -> Result<Slot, TreeFault>
+        requires place { ((shape_in self.now.layout).data_lines ≤ at) × (at < (shape_in self.now.layout).lines) }
+        requires own_counters { row stored.now ≡ (memory_in (B.Board.meaning self.now.board.now).lines at).words }
+        ensures value { slot_outcome result ≡ from_children (shape_in self.now.layout) (S.Suite.scheme self.now.suite.now) (memory_in (B.Board.meaning self.now.board.now).lines) at }
+        ensures slot { SlotOf at result }
+    {
+        let first = self.layout.first_child(at);
+        let mut counters = *stored;
+        let mut pending = 0;
+        for (i, counter) in counters.iter_mut().enumerate() {
+            let restored = self.restore_child(first + i, *counter)?;
+            pending += moved(*counter, restored);
+            *counter = restored;
+        }
+        Ok(Slot {
+            address: at,
+            counters,
+            pending,
+        })
+    }
+
+    // Restores node `at`: its way down and own line are checked, then its children.
+    fn restore_node(&self, at: usize) -> Result<Slot, TreeFault>
+        requires { ((shape_in self.now.layout).data_lines ≤ at) × (at < (shape_in self.now.layout).lines) }
+        ensures value { slot_outcome result ≡ restore_node (shape_in self.now.layout) (S.Suite.scheme self.now.suite.now) (view_in (B.Board.meaning self.now.board.now) (table_in self.now.slots.now)) at }
+        ensures slot { SlotOf at result }
+    {
+        let counter = self.counter_of(at)?;
+        let line = line_of(self.board, at)?;
+        let nonce = Nonce {
+            at: at as u64,
+            counter,
+        };
+        if !node_valid(self.suite, nonce, &line) {
+            return Err(TreeFault::Corrupt(at));
+        }
+        self.slot_from(at, &line.body)
+    }
 }
 
 // Restores the nodes of a dirty map into empty slots, highest address first.
+// It takes a view's parts, since each node that is restored changes the slots.
 fn restore<B: Board, S: Suite>(
     board: &B,
     suite: &S,
@@ -121,7 +113,13 @@ fn restore<B: Board, S: Suite>(
     let base = layout.data_lines();
     let mut below = layout.lines() - base;
     while let Some(j) = highest_below(map, below) {
-        let slot = restore_node(board, suite, slots, layout, base + j)?;
+        let view = View {
+            board,
+            suite,
+            slots,
+            layout,
+        };
+        let slot = view.restore_node(base + j)?;
         slots.push(slot);
         below = j;
     }
@@ -136,6 +134,7 @@ fn adds_up(slots: &Slots, sum: u64) -> bool
 }
 
 // The slots of the dirty nodes, whose counters must add up to the dirty sum.
+// It takes no view, since there are no slots before it.
 pub(crate) fn recover<B: Board, S: Suite>(
     board: &B,
     suite: &S,

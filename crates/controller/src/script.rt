@@ -1,24 +1,26 @@
 // Scripts: many events in a row on one board that a program can also reach from outside.
 ghost use Rattle.std.specs.Prelude.{◌≡◌, ℕ, ◌<◌, min, length, take, drop, slice_index_or};
 ghost use Rattle.board.specs.Meaning.{endless};
-ghost use Rattle.controller.specs.Worlds.{world_in, read_in, report_by};
+ghost use Rattle.controller.specs.Worlds.{world_in, read_in, report_in};
 ghost use Rattle.controller.specs.Scripts.{answer_in, PlaysOne, DoesOne, Plays, DoesAll};
 ghost use Rattle.controller.specs.declared.event.Event.TheVariants.{Read as Reading, Write as Writing, Flush as Flushing, Restart, Recharge as Recharging, Tamper as Tampering};
 
 use crate::event::{Event, Reply};
 use crate::open::Open;
-use crate::types::Fault;
+use crate::types::{Fault, Report};
 use board::tamper::{Recharge, Tamper};
 use board::types::Line;
 use suite::suite::Suite;
 
 // What a call without a body answered, with the commits made.
-fn reply(outcome: Result<(), Fault>, commits: u64) -> Reply
-    ensures { answer_in result ≡ report_by outcome commits }
-{
-    match outcome {
-        Ok(_) => Reply::Done(commits),
-        Err(fault) => Reply::Refused(fault, commits),
+impl From<Report> for Reply {
+    ghost from_gives = { λ report reply. answer_in reply ≡ report_in report };
+
+    fn from(report: Report) -> Reply {
+        match report.outcome {
+            Ok(()) => Reply::Done(report.commits),
+            Err(fault) => Reply::Refused(fault, report.commits),
+        }
     }
 }
 
@@ -27,7 +29,7 @@ fn read_reply(outcome: Result<(), Fault>, body: &[u64; 8]) -> Reply
     ensures { answer_in result ≡ read_in outcome body.now }
 {
     match outcome {
-        Ok(_) => Reply::Body(*body),
+        Ok(()) => Reply::Body(*body),
         Err(fault) => Reply::Refused(fault, 0),
     }
 }
@@ -51,7 +53,7 @@ impl<B: Tamper + Recharge, S: Suite + Copy> Open<B, S> {
         ensures suite { result.0.suite ≡ self.suite }
     {
         let report = self.write(at, body);
-        (self, reply(report.outcome, report.commits))
+        (self, Reply::from(report))
     }
 
     // Evicts every dirty node.
@@ -61,7 +63,7 @@ impl<B: Tamper + Recharge, S: Suite + Copy> Open<B, S> {
         ensures suite { result.0.suite ≡ self.suite }
     {
         let report = self.flush();
-        (self, reply(report.outcome, report.commits))
+        (self, Reply::from(report))
     }
 
     // Shuts the board down and brings it up again.
@@ -72,7 +74,13 @@ impl<B: Tamper + Recharge, S: Suite + Copy> Open<B, S> {
     {
         let suite = self.suite;
         let (next, outcome) = self.shut_down().bring_up(suite, slots);
-        (next, reply(outcome, 0))
+        (
+            next,
+            Reply::from(Report {
+                commits: 0,
+                outcome,
+            }),
+        )
     }
 
     // Shuts the board down, sets its power anew and brings it up again.
@@ -85,7 +93,13 @@ impl<B: Tamper + Recharge, S: Suite + Copy> Open<B, S> {
         let mut cold = self.shut_down();
         cold.recharge(left);
         let (next, outcome) = cold.bring_up(suite, slots);
-        (next, reply(outcome, 0))
+        (
+            next,
+            Reply::from(Report {
+                commits: 0,
+                outcome,
+            }),
+        )
     }
 
     // Puts a line in place from outside.
@@ -114,16 +128,6 @@ impl<B: Tamper + Recharge, S: Suite + Copy> Open<B, S> {
         }
     }
 
-    // Event `i` of a script.
-    fn run_at(self, slots: u64, events: &[Event], i: usize) -> (Open<B, S>, Reply)
-        requires { i < length events.now }
-        ensures plays { PlaysOne (S.Suite.scheme self.suite) slots (world_in (B.Board.meaning self.board) self.chip) (slice_index_or events.now i (Reading 0)) result.1 (world_in (B.Board.meaning result.0.board) result.0.chip) }
-        ensures does { DoesOne (S.Suite.scheme self.suite) slots (B.Recharge.supply self.board) (B.Board.meaning self.board) self.chip (slice_index_or events.now i (Reading 0)) result.1 (B.Board.meaning result.0.board) result.0.chip }
-        ensures suite { result.0.suite ≡ self.suite }
-    {
-        self.run(slots, &events[i])
-    }
-
     // Runs events one after another, as many as there is room for replies. Each finds what came before.
     pub fn run_script(self, slots: u64, events: &[Event], replies: &mut [Reply]) -> Open<B, S>
         ensures plays { Plays (S.Suite.scheme self.suite) slots (world_in (B.Board.meaning self.board) self.chip) (take (min (length events.now) (length replies.old)) events.now) (take (min (length events.now) (length replies.old)) replies.new) (world_in (B.Board.meaning result.board) result.chip) }
@@ -132,8 +136,9 @@ impl<B: Tamper + Recharge, S: Suite + Copy> Open<B, S> {
         ensures suite { result.suite ≡ self.suite }
     {
         let mut current = self;
-        for i in 0..events.len().min(replies.len()) {
-            let (next, reply) = current.run_at(slots, events, i);
+        let played = &events[..events.len().min(replies.len())];
+        for (i, event) in played.iter().enumerate() {
+            let (next, reply) = current.run(slots, event);
             replies[i] = reply;
             current = next;
         }

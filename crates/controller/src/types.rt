@@ -7,6 +7,14 @@ pub struct LineFault {
     pub line: usize,
 }
 
+// What meets a fault: the board, the tree of counters on the chip, or the controller.
+#[derive(Clone, Copy, PartialEq, Eq, Debug)]
+pub enum Layer {
+    Board,
+    Tree,
+    Controller,
+}
+
 // Why the tree refuses a call.
 #[derive(Clone, Copy)]
 pub enum TreeFault {

@@ -1,9 +1,10 @@
 -- Small laws: a function changed at one place, sums, tests, answers.
-use Rattle.std.proofs.Common.{◌≡◌, ℕ, zero, suc, ◌+◌, ◌<◌, ◌≤◌, Bool, true, false, cond, ◌⊎◌, sym, refl, ap, ◌∙◌, subst, inl, inr, arith}
+use Rattle.std.proofs.Common.{◌≡◌, ℕ, zero, suc, ◌+◌, ◌<◌, ◌≤◌, Bool, true, false, cond, ◌⊎◌, List, length, get_or, MatchBool, sym, refl, ap, ◌∙◌, subst, inl, inr, arith}
 use mathlib.Core.Option.{Option, some, none}
 use Rattle.std.proofs.lemmas.Bool.{eq-eqb, ne_eqb, and_parts, and_from, cases_lt, both_ways}
+use Rattle.std.specs.List.{AllWithin, HoldsAt}
 use Rattle.machine.specs.Layout.{update, sum_to, every, first, or_last}
-use Rattle.machine.specs.Faults.{Outcome, ok, err, Fault, bind}
+use Rattle.machine.specs.Faults.{Cause, Fault, fault, Outcome, ok, err, bind}
 
 pub update_same : {A : Type 0} (f : ℕ → A) (a : ℕ) (x : A) (q : ℕ) → q ≡ a → update f a x q ≡ x
 update_same f a x q e = rw (eq-eqb q a e)
@@ -60,39 +61,23 @@ every_from zero f h = refl
 every_from (suc n) f h = and_from (every n f) (f n) (every_from n f (λ i k. h i (omega arith))) (h n (omega arith))
 
 pub none≢some : {A : Type 0} {x : A} → none ≡ some x → ⊥
-none≢some {A} {x} e = subst code e tt
-  where
-    code : Option A → Type 0
-    code none = Unit {0}
-    code (some y) = ⊥
+none≢some e = cc
 
 pub some_inj : {A : Type 0} {x y : A} → some x ≡ some y → x ≡ y
-some_inj {A} {x} {y} e = ap from e
-  where
-    from : Option A → A
-    from none = x
-    from (some z) = z
+some_inj e = cc
 
 pub ok_inj : {A : Type 0} {x y : A} → ok x ≡ ok y → x ≡ y
-ok_inj {A} {x} {y} e = ap from e
-  where
-    from : Outcome A → A
-    from (ok z) = z
-    from (err r) = x
+ok_inj e = cc
 
 pub err_inj : {A : Type 0} {x y : Fault} → ◌≡◌ {A = Outcome A} (err x) (err y) → x ≡ y
-err_inj {A} {x} {y} e = ap from e
-  where
-    from : Outcome A → Fault
-    from (ok z) = x
-    from (err r) = r
+err_inj e = cc
+
+-- The cause in an equation of faults.
+pub same_cause : {c d : Cause} {p q : ℕ} → fault c p ≡ fault d q → c ≡ d
+same_cause e = ap (λ r. r.cause) e
 
 pub err≢ok : {A : Type 0} {x : A} {r : Fault} → err r ≡ ok x → ⊥
-err≢ok {A} {x} {r} e = subst code e tt
-  where
-    code : Outcome A → Type 0
-    code (err s) = Unit {0}
-    code (ok y) = ⊥
+err≢ok e = cc
 
 -- An accepted answer of two steps had both accepted.
 pub bind_ok : {A B : Type 0} (x : Outcome A) (f : A → Outcome B) {y : B} → bind x f ≡ ok y → (z : A) × (x ≡ ok z) × (f z ≡ ok y)
@@ -158,6 +143,11 @@ every_fails n f i h e = go (every n f) refl
     go : (b : Bool) → every n f ≡ b → b ≡ false
     go true u = absurd (both_ways (f i) e (every_at n f u i h))
     go false u = refl
+
+-- What a test of each element of a list answered, by places.
+pub every_listed : {A : Type 0} (n : ℕ) (p : A → Bool) (xs : List A) (d : A) (r : Bool) → length xs ≡ n → MatchBool r (AllWithin (λ x. p x ≡ true) xs 0 (length xs)) ((k : ℕ) × (k < length xs) × HoldsAt (λ x. p x ≡ false) xs k) → r ≡ every n (λ i. p (get_or xs i d))
+every_listed n p xs d true e h = sym (every_from n (λ i. p (get_or xs i d)) (λ i k. h i d (omega arith) (omega (arith, e))))
+every_listed n p xs d false e h = sym (every_fails n (λ i. p (get_or xs i d)) h.0 (omega (arith, e, h.1)) (h.2 d))
 
 pub every_same : (n : ℕ) (f g : ℕ → Bool) → ((i : ℕ) → i < n → f i ≡ g i) → every n f ≡ every n g
 unfolding every

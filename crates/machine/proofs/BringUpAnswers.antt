@@ -6,14 +6,14 @@ use Rattle.suite.specs.Scheme.{Body, Line, Scheme}
 use Rattle.board.specs.Meaning.{Power, endless, writes}
 use Rattle.machine.specs.Layout.{Shape, TreeLaws, update}
 use Rattle.machine.specs.Store.{line_at, Journal, Register, Log, Write, BoardState, after_writes, place_of, Cut}
-use Rattle.machine.specs.Faults.{Fault, Cause, number, fault, Outcome, ok, err, bad_size, invalid_register, other_suite, too_many_dirty, corrupt, sum_mismatch, power_lost}
+use Rattle.machine.specs.Faults.{Fault, fault, Outcome, ok, err, bad_size, invalid_register, other_suite, too_many_dirty, corrupt, sum_mismatch, power_lost}
 use Rattle.machine.specs.Plans.{Table, recover, map_count}
 use Rattle.machine.specs.History.{cold, bring_up, InLog, World, latched, Answer, done, refused, power_lost_at, after, shape_of, journal_writes, register_valid, bring_up_check, recovered_answer, recovered_chip, BroughtUp}
 use Rattle.machine.specs.Laws.{RecoveryRests, Unchanged, Stands, Rests}
 use Rattle.machine.specs.CommitLaws.{NotRaised, dirty_in, pending_in}
 use Rattle.machine.specs.Promises.{Law, UnformattedLaw, BringUpLaw, Powerless, Passes}
 use Rattle.machine.proofs.Invariant.{Durable}
-use Rattle.machine.proofs.Basics.{update_same, update_other, sum_same, some_inj, none≢some}
+use Rattle.machine.proofs.Basics.{update_same, update_other, sum_same, some_inj, none≢some, same_cause}
 use Rattle.machine.proofs.Trails.{ColdHolds}
 use Rattle.machine.proofs.BoardHolds.{FormattedBoard, BoardHolds}
 use Rattle.machine.proofs.Cuts.{cut_le, refused_inj, done≢refused}
@@ -162,24 +162,10 @@ module _ (shapes : ℕ → Shape) (S : Scheme) where
 
       no_power : (o : Option Journal) (n : Journal) → o ≡ some n → (k : ℕ) (p q : Power) → p ≡ writes 0 → Cut p (length (journal_writes o)) k q → k < length (journal_writes o)
       no_power none n e k p q z c = absurd (none≢some e)
-      no_power (some m) n e k endless endless z c = absurd (apart z)
-        where
-          code : Power → Type 0
-          code endless = Unit {0}
-          code (writes q) = ⊥
-
-          apart : endless ≡ writes 0 → ⊥
-          apart y = subst code y tt
+      no_power (some m) n e k endless endless z c = absurd cc
       no_power (some m) n e k endless (writes q) z c = absurd c
       no_power (some m) n e k (writes p) endless z c = absurd c
-      no_power (some m) n e k (writes p) (writes q) z c = omega (arith, c.1, num_of z)
-        where
-          val : Power → ℕ
-          val endless = 0
-          val (writes q) = q
-
-          num_of : writes p ≡ writes 0 → p ≡ 0
-          num_of y = ap val y
+      no_power (some m) n e k (writes p) (writes q) z c = let none_left : p ≡ 0 = cc in omega (arith, c.1)
 
       journal_place : (o : Option Journal) (n : Journal) → o ≡ some n → (k : ℕ) → k < length (journal_writes o) → place_of k (journal_writes o) ≡ n.at
       unfolding place_of
@@ -244,14 +230,11 @@ module _ (shapes : ℕ → Shape) (S : Scheme) where
           not_early : (r : Fault) → r ≡ fault sum_mismatch 0 → bring_up_check shapes cap num w.board ≡ some r → Goal
           not_early r e h = at (leb 1 cap && leb cap 64) (eqb num S.number) (leb (dirty_in T l) cap) (sym is ∙ h)
             where
-              no : {n : Cause} → some (fault n 0) ≡ some r → number n ≡ 9
-              no z = ap (λ u. number u.cause) (some_inj z ∙ e)
-
               at : (a b c : Bool) → cond a (cond b (cond c none (some (fault too_many_dirty 0))) (some (fault other_suite 0))) (some (fault bad_size 0)) ≡ some r → Goal
               at true true true z = absurd (none≢some z)
-              at true true false z = let u : ◌≡◌ {A = ℕ} 7 9 = no z in absurd (omega arith)
-              at true false c z = let u : ◌≡◌ {A = ℕ} 6 9 = no z in absurd (omega arith)
-              at false b c z = let u : ◌≡◌ {A = ℕ} 2 9 = no z in absurd (omega arith)
+              at true true false z = absurd (cc (same_cause (some_inj z ∙ e)))
+              at true false c z = absurd (cc (same_cause (some_inj z ∙ e)))
+              at false b c z = absurd (cc (same_cause (some_inj z ∙ e)))
 
           late : (k : ℕ) (p : Power) → k ≡ length ws → (z : Outcome Table) → recover T S (after_writes k ws w.board).memory w.board.register ≡ z → x ≡ recovered_answer z → w' ≡ record { board = after w.board k ws p; chip = cond (ltb k (length ws)) (latched (power_lost_at k ws)) (recovered_chip cap (recover T S (after_writes k ws w.board).memory w.board.register)) } → Goal
           late k p i (ok t) e ex ew = absurd (done≢refused (sym ex ∙ f))
@@ -260,7 +243,7 @@ module _ (shapes : ℕ → Shape) (S : Scheme) where
               (c, b, u, ap (λ z. z.board.memory q) ew ∙ o)
 
           cut : (k : ℕ) (p : Power) (d : Bool) → ltb k (length ws) ≡ d → Cut w.board.power (length ws) k p → x ≡ cond d (refused (power_lost_at k ws) 0) (recovered_answer (recover T S (after_writes k ws w.board).memory w.board.register)) → w' ≡ record { board = after w.board k ws p; chip = cond (ltb k (length ws)) (latched (power_lost_at k ws)) (recovered_chip cap (recover T S (after_writes k ws w.board).memory w.board.register)) } → Goal
-          cut k p true g c ex ew = let z : ◌≡◌ {A = ℕ} 10 9 = ap (λ u. number u.cause) (refused_inj (sym ex ∙ f)).0 in absurd (omega arith)
+          cut k p true g c ex ew = absurd (cc (same_cause (refused_inj (sym ex ∙ f)).0))
           cut k p false g c ex ew = late k p (omega (arith, ltb-false _ _ g, cut_le w.board.power p (length ws) k c)) (recover T S (after_writes k ws w.board).memory w.board.register) refl ex ew
 
           go : (o : Option Fault) → bring_up_check shapes cap num w.board ≡ o → BroughtUp shapes S cap w.board o l x w' l' → Goal
@@ -273,14 +256,11 @@ module _ (shapes : ℕ → Shape) (S : Scheme) where
           not_early : (r : Fault) → r ≡ fault corrupt q → bring_up_check shapes cap num w.board ≡ some r → ⊥
           not_early r e h = at (leb 1 cap && leb cap 64) (eqb num S.number) (leb (dirty_in T l) cap) (sym is ∙ h)
             where
-              no : {n : Cause} → some (fault n 0) ≡ some r → number n ≡ 8
-              no z = ap (λ u. number u.cause) (some_inj z ∙ e)
-
               at : (a b c : Bool) → cond a (cond b (cond c none (some (fault too_many_dirty 0))) (some (fault other_suite 0))) (some (fault bad_size 0)) ≡ some r → ⊥
               at true true true z = absurd (none≢some z)
-              at true true false z = let u : ◌≡◌ {A = ℕ} 7 8 = no z in omega arith
-              at true false c z = let u : ◌≡◌ {A = ℕ} 6 8 = no z in omega arith
-              at false b c z = let u : ◌≡◌ {A = ℕ} 2 8 = no z in omega arith
+              at true true false z = cc (same_cause (some_inj z ∙ e))
+              at true false c z = cc (same_cause (some_inj z ∙ e))
+              at false b c z = cc (same_cause (some_inj z ∙ e))
 
           late : (k : ℕ) → w'.board.memory ≡ (after_writes k ws w.board).memory → (z : Outcome Table) → recover T S (after_writes k ws w.board).memory w.board.register ≡ z → x ≡ recovered_answer z → ⊥
           late k em (ok t) e ex = done≢refused (sym ex ∙ f)
@@ -289,7 +269,7 @@ module _ (shapes : ℕ → Shape) (S : Scheme) where
               (λ u y. subst (λ m. Stands T S l m u) em (h u y))
 
           cut : (k : ℕ) (d : Bool) → w'.board.memory ≡ (after_writes k ws w.board).memory → x ≡ cond d (refused (power_lost_at k ws) 0) (recovered_answer (recover T S (after_writes k ws w.board).memory w.board.register)) → ⊥
-          cut k true em ex = let z : ◌≡◌ {A = ℕ} 10 8 = ap (λ u. number u.cause) (refused_inj (sym ex ∙ f)).0 in omega arith
+          cut k true em ex = cc (same_cause (refused_inj (sym ex ∙ f)).0)
           cut k false em ex = late k em (recover T S (after_writes k ws w.board).memory w.board.register) refl ex
 
           go : (o : Option Fault) → bring_up_check shapes cap num w.board ≡ o → BroughtUp shapes S cap w.board o l x w' l' → ⊥
@@ -306,8 +286,8 @@ module _ (shapes : ℕ → Shape) (S : Scheme) where
 
           at : JournalPowerLost w r w.board.register.journal ⊎ ((((q : ℕ) × (r ≡ fault corrupt q) × RecoveryRests T w.board.register.dirty q) ⊎ (r ≡ fault sum_mismatch 0)) × (((q : ℕ) → RecoveryRests T w.board.register.dirty q → Stands T S l w'.board.memory q) → ⊥)) → ⊥
           at (inl y) = journaled w.board.register.journal refl y
-          at (inr (inl (q, y, _), _)) = let z : ◌≡◌ {A = ℕ} 8 10 = ap number (ap (λ u. u.cause) (sym y) ∙ c) in omega arith
-          at (inr (inr y, _)) = let z : ◌≡◌ {A = ℕ} 9 10 = ap number (ap (λ u. u.cause) (sym y) ∙ c) in omega arith
+          at (inr (inl (q, y, _), _)) = cc
+          at (inr (inr y, _)) = cc
 
           go : (x ≡ done 0) ⊎ ((y : Fault) × (x ≡ refused y 0) × (w'.chip ≡ latched y)) → ⊥
           go (inl g) = done≢refused (sym g ∙ f)

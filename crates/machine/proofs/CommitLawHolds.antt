@@ -7,7 +7,7 @@ use Rattle.suite.specs.Scheme.{Body, Scheme}
 use Rattle.board.specs.Meaning.{Power, endless, writes}
 use Rattle.machine.specs.Layout.{Shape, TreeLaws}
 use Rattle.machine.specs.Store.{Log, BoardState, after_writes, log_after, commits_in, place_of, Cut}
-use Rattle.machine.specs.Faults.{number, Fault, fault, not_data, power_lost}
+use Rattle.machine.specs.Faults.{Fault, fault, not_data, power_lost}
 use Rattle.machine.specs.Plans.{Table, View, Run, stop, write_at, write_call, flush_call}
 use Rattle.machine.specs.History.{counter_in, World, opened, latched, Answer, done, refused, ending, power_lost_at, answer_of, chip_of, after, view_of, shape_of, Ran}
 use Rattle.machine.specs.Laws.{Stands, WayStands, Unchanged}
@@ -82,8 +82,8 @@ module _ (shapes : ℕ → Shape) (S : Scheme) (w : World) (L : TreeLaws (shape_
     latch y (inr (i, e)) = let (q, u, z) = reason i y e in inr (at z, (r.view.table, open_chip i))
       where
         at : {q : ℕ} → Reason shapes T L S l' (record { memory = (after_writes k r.planned w.board).memory; register = (after_writes k r.planned w.board).register; table = r.view.table }) q y → y.cause ≡ power_lost → ⊥
-        at (inl (f, _, _)) h = let g : ◌≡◌ {A = ℕ} 11 10 = ap number (ap (λ z. z.cause) (sym f) ∙ h) in omega arith
-        at (inr (x, f, _, _, _, _)) h = let g : ◌≡◌ {A = ℕ} 8 10 = ap number (ap (λ z. z.cause) (sym f) ∙ h) in omega arith
+        at (inl (f, _, _)) h = cc
+        at (inr (x, f, _, _, _, _)) h = cc
 
     answered : ((n : ℕ) × (answer_of r k ≡ done n)) ⊎ ((y : Fault) × (n : ℕ) × (answer_of r k ≡ refused y n))
     answered = go (ltb k (length r.planned))

@@ -5,12 +5,12 @@ use Rattle.std.proofs.lemmas.Bool.{cases_lt, cases_eq, both_ways, and_from, le-l
 use Rattle.suite.specs.Scheme.{Line, Scheme, right}
 use Rattle.machine.specs.Layout.{Shape, TreeLaws, update, first}
 use Rattle.machine.specs.Store.{Register, Log}
-use Rattle.machine.specs.Faults.{number, Fault, fault, Outcome, ok, err, bind, corrupt, sum_mismatch}
+use Rattle.machine.specs.Faults.{Fault, fault, Outcome, ok, err, bind, corrupt, sum_mismatch}
 use Rattle.machine.specs.Plans.{Slot, Table, View, node_valid, held, in_line, counter_at, counter_of, child_counter, child_valid, slot_unless, slot_from, restore_node, with_slot, restore, recover, sum_of}
 use Rattle.machine.specs.History.{counter_in, body_in}
 use Rattle.machine.specs.Laws.{Stands, Rests, itself, above}
 use Rattle.machine.proofs.Invariant.{Durable}
-use Rattle.machine.proofs.Basics.{update_same, update_other, err≢ok, ok_inj, err_inj, none≢some, some_inj, first_some, term_le}
+use Rattle.machine.proofs.Basics.{update_same, update_other, err≢ok, ok_inj, err_inj, none≢some, some_inj, first_some, term_le, same_cause}
 use Rattle.machine.proofs.Lines.{stands_right, stands_valid, node_words, child_is}
 use Rattle.machine.proofs.TrustedCounter.{rests_up, inner_parent, depth_next, root_counter, line_counter}
 use Rattle.machine.proofs.Recovery.{slot_facts, bind_err}
@@ -173,4 +173,4 @@ module _ (shapes : ℕ → Shape) (T : Shape) (L : TreeLaws T) (S : Scheme) (l :
     where
       judged : (w : View) (b : Bool) → cond b (ok w.table) (err (fault sum_mismatch 0)) ≡ err x → Fails x
       judged w true e q f h = absurd (err≢ok (sym e))
-      judged w false e q f h = let z : ◌≡◌ {A = ℕ} 9 8 = ap (λ r. number r.cause) (err_inj e ∙ f) in omega arith
+      judged w false e q f h = cc (same_cause (err_inj e ∙ f))

@@ -7,7 +7,7 @@ use Rattle.board.specs.Meaning.{Power, endless, writes}
 use Rattle.machine.specs.Store.{Log, Write, write_register, write_line, BoardState, after_write, after_writes, log_after, commits_in, Cut}
 use Rattle.machine.specs.Faults.{Fault}
 use Rattle.machine.specs.Plans.{Run}
-use Rattle.machine.specs.History.{Answer, nothing, body_is, done, refused, ending, power_lost_at, answer_of}
+use Rattle.machine.specs.History.{body_is, done, refused, ending, power_lost_at, answer_of}
 
 pub after_writes_front : (ws ws₁ : List Write) (k : ℕ) (b : BoardState) → k ≤ length ws → after_writes k (ws ++ ws₁) b ≡ after_writes k ws b
 unfolding after_writes
@@ -50,52 +50,20 @@ cut_lost (writes p) endless w k c h = absurd c
 cut_lost (writes p) (writes q) w k c h = ap writes (c.2 h)
 
 -- Answers are told apart.
-answer_code : Answer → ℕ
-answer_code nothing = 0
-answer_code (body_is b) = 1
-answer_code (done n) = 2
-answer_code (refused r n) = 3
-
 pub done≢refused : {n m : ℕ} {r : Fault} → done n ≡ refused r m → ⊥
-unfolding answer_code
-done≢refused e = let z : ◌≡◌ {A = ℕ} 2 3 = ap answer_code e in omega arith
+done≢refused e = cc
 
 pub body≢refused : {b : Body} {m : ℕ} {r : Fault} → body_is b ≡ refused r m → ⊥
-unfolding answer_code
-body≢refused e = let z : ◌≡◌ {A = ℕ} 1 3 = ap answer_code e in omega arith
+body≢refused e = cc
 
 pub body_inj : {b d : Body} → body_is b ≡ body_is d → b ≡ d
-body_inj {b} {d} e = ap from e
-  where
-    from : Answer → Body
-    from nothing = b
-    from (body_is x) = x
-    from (done n) = b
-    from (refused r n) = b
+body_inj e = cc
 
 pub done_inj : {n m : ℕ} → done n ≡ done m → n ≡ m
-done_inj {n} {m} e = ap from e
-  where
-    from : Answer → ℕ
-    from nothing = 0
-    from (body_is x) = 0
-    from (done n) = n
-    from (refused r n) = 0
+done_inj e = cc
 
 pub refused_inj : {r s : Fault} {n m : ℕ} → refused r n ≡ refused s m → (r ≡ s) × (n ≡ m)
-refused_inj {r} {s} {n} {m} e = (ap from e, ap num e)
-  where
-    from : Answer → Fault
-    from nothing = r
-    from (body_is x) = r
-    from (done n) = r
-    from (refused r n) = r
-
-    num : Answer → ℕ
-    num nothing = 0
-    num (body_is x) = 0
-    num (done n) = 0
-    num (refused r n) = n
+refused_inj e = (cc, cc)
 
 -- What the answer of a run says of its cut.
 pub answer_done : (r : Run) (k n : ℕ) → k ≤ length r.planned → answer_of r k ≡ done n → (k ≡ length r.planned) × (r.ends ≡ none) × (n ≡ commits_in k r.planned)

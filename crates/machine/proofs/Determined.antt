@@ -4,12 +4,13 @@ use Rattle.std.proofs.lemmas.Bool.{cases_lt}
 use Rattle.suite.specs.Scheme.{Body, Scheme}
 use Rattle.machine.specs.Layout.{Shape}
 use Rattle.machine.specs.Store.{Journal, Log}
-use Rattle.machine.specs.Faults.{number, fault, too_many_dirty, corrupt, sum_mismatch}
+use Rattle.machine.specs.Faults.{fault, too_many_dirty, corrupt, sum_mismatch}
 use Rattle.machine.specs.History.{refused, World}
 use Rattle.machine.specs.Laws.{RecoveryRests}
 use Rattle.machine.specs.CommitLaws.{pending_in, counters_in, with_next, Evicted, alone, parent_first, EvictedUntil, enough, lowest_first, Written, under_root, leaf_dirty, leaf_clean, leaf_overdue}
 use Rattle.machine.specs.Promises.{BringUpLaw, Powerless, Passes}
 use Rattle.machine.proofs.Cuts.{refused_inj}
+use Rattle.machine.proofs.Basics.{same_cause}
 
 module _ (T : Shape) where
   not_both : (l : Log) (A : ℕ) → (T.parent A ≡ T.lines) ⊎ (pending_in T l (T.parent A) < 1023) → T.parent A < T.lines → 1023 ≤ pending_in T l (T.parent A) → ⊥
@@ -60,6 +61,6 @@ pub not_too_many : (S : Scheme) (T : Shape) (cap num : ℕ) (w : World) (l : Log
 not_too_many S T cap num w l w' u c = go (c.why u (fault too_many_dirty 0) refl)
   where
     go : ((j : Journal) × Powerless S T w j) ⊎ (((q : ℕ) × (fault too_many_dirty 0 ≡ fault corrupt q) × RecoveryRests T w.board.register.dirty q) ⊎ (fault too_many_dirty 0 ≡ fault sum_mismatch 0)) → ⊥
-    go (inl (j, y)) = let z : ◌≡◌ {A = ℕ} 7 10 = ap (λ r. number r.cause) (refused_inj (c.powerless u j y)).0 in omega arith
-    go (inr (inl (q, x, _))) = let z : ◌≡◌ {A = ℕ} 7 8 = ap (λ r. number r.cause) x in omega arith
-    go (inr (inr x)) = let z : ◌≡◌ {A = ℕ} 7 9 = ap (λ r. number r.cause) x in omega arith
+    go (inl (j, y)) = cc (same_cause (refused_inj (c.powerless u j y)).0)
+    go (inr (inl (q, x, _))) = cc (same_cause x)
+    go (inr (inr x)) = cc (same_cause x)

@@ -47,3 +47,12 @@ eight_trees (suc (suc zero)) k j = tree_of 1 8 refl refl (λ a. omega arith)
 eight_trees (suc (suc (suc zero))) k j = tree_of 2 64 refl refl (λ a. omega arith)
 eight_trees (suc (suc (suc (suc zero)))) k j = tree_of 3 512 refl refl (λ a. omega arith)
 eight_trees (suc (suc (suc (suc (suc h))))) k j = absurd (omega arith)
+
+-- There are at most 584 nodes.
+pub lines_near : (h : ℕ) → 1 ≤ h → h ≤ 4 → lines_of h ≤ 8 ^ h + 584
+lines_near zero k j = absurd (omega arith)
+lines_near (suc zero) k j = omega arith
+lines_near (suc (suc zero)) k j = omega arith
+lines_near (suc (suc (suc zero))) k j = omega arith
+lines_near (suc (suc (suc (suc zero)))) k j = omega arith
+lines_near (suc (suc (suc (suc (suc h))))) k j = absurd (omega arith)

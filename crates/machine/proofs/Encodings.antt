@@ -27,9 +27,9 @@ module _ (formatted levels suite sum : ℕ) where
   -- The words as they are put together.
   abbrev put_together : List ℕ → Maybe Entry → List ℕ → List ℕ
   put_together roots j dirty =
-      let first = set (set (set (set (replicate 32 0) 0 formatted) 1 levels) 2 suite) 11 sum in
+      let first = set (set (set (replicate 32 0) 0 formatted) 1 levels) 2 suite in
       let second = take 3 first ++ (roots ++ drop 11 first) in
-      let third = with_journal second j in
+      let third = with_journal (set second 11 sum) j in
       take 22 third ++ (dirty ++ drop 32 third)
 
   put_none : (roots dirty : List ℕ) → length roots ≡ 8 → put_together roots None dirty ≡ encoded (fields roots None dirty)

@@ -1,5 +1,6 @@
 pub mod Restoring
 pub mod Basics
+pub mod Limits
 pub mod Pending
 pub mod Invariant
 pub mod Lines
@@ -31,7 +32,6 @@ pub mod EightAry
 pub mod Theorem
 pub mod Example
 pub mod WorkedCases
-pub mod CutsCompose
 pub mod SlotTable
 pub mod Encodings
 pub mod ValidParts

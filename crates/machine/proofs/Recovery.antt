@@ -5,7 +5,7 @@ use Rattle.std.proofs.lemmas.Bool.{cases_lt, both_ways, and_parts, and_from, not
 use Rattle.suite.specs.Scheme.{Line, Scheme, right}
 use Rattle.machine.specs.Layout.{Shape, TreeLaws, update, sum_to, first}
 use Rattle.machine.specs.Store.{Register, Log}
-use Rattle.machine.specs.Faults.{number, Fault, fault, Outcome, ok, err, bind, corrupt, sum_mismatch, power_lost}
+use Rattle.machine.specs.Faults.{Fault, fault, Outcome, ok, err, bind, corrupt, sum_mismatch, power_lost}
 use Rattle.machine.specs.Plans.{Slot, Table, is_dirty, slot_counters, View, sum_of, node_valid, held, in_line, counter_at, counter_of, child_counter, child_valid, slot_unless, slot_from, restore_node, with_slot, restore, recover}
 use Rattle.machine.specs.History.{counter_in, body_in}
 use Rattle.machine.specs.Laws.{Stands, Rests, itself, above, RecoveryRests, way, child}
@@ -389,11 +389,11 @@ module _ (T : Shape) (S : Scheme) where
   pub recover_cause : (m : ℕ → Line) (g : Register) (x : Fault) → recover T S m g ≡ err x → (x.cause ≡ power_lost) → ⊥
   unfolding recover
   recover_cause m g x e =
-      bind_err (λ x. x.cause ≡ power_lost → ⊥) (restore T S T.lines (record { memory = m; register = g; table = λ p. none })) _ x (λ r f h. let z : ◌≡◌ {A = ℕ} 8 10 = ap number (sym (restore_cause T.lines _ r f) ∙ h) in omega arith) (λ w _ f. judged w (eqb (sum_of T w.table) g.dirty_sum) f) e
+      bind_err (λ x. x.cause ≡ power_lost → ⊥) (restore T S T.lines (record { memory = m; register = g; table = λ p. none })) _ x (λ r f h. cc (restore_cause T.lines _ r f)) (λ w _ f. judged w (eqb (sum_of T w.table) g.dirty_sum) f) e
     where
       judged : (w : View) (b : Bool) → cond b (ok w.table) (err (fault sum_mismatch 0)) ≡ err x → x.cause ≡ power_lost → ⊥
       judged w true e h = absurd (err≢ok (sym e))
-      judged w false e h = let z : ◌≡◌ {A = ℕ} 9 10 = ap number (ap (λ z. z.cause) (err_inj e) ∙ h) in omega arith
+      judged w false e h = cc
 
   -- A fault for a corrupt line names a line that the bring-up rests on.
   abbrev Named : (ℕ → Bool) → Fault → Type 0

@@ -1,16 +1,33 @@
 -- The test of a register in the order of its parts.
-use Rattle.std.proofs.Common.{◌≡◌, ℕ, ◌+◌, ◌-◌, ◌^◌, ◌<◌, ◌≤◌, Bool, true, false, not, ◌&&◌, ◌||◌, eqb, ltb, leb, ◌⊎◌, sym, refl, ap, ◌∙◌, inl, inr, arith}
-use Rattle.std.proofs.lemmas.Bool.{le-leb, lt-ltb, le-ltb, cases_lt, eq-eqb, ne_eqb, lt-leb}
+use Rattle.std.proofs.Common.{◌≡◌, ℕ, ◌+◌, ◌-◌, ◌^◌, ◌<◌, ◌≤◌, Bool, true, false, not, ◌&&◌, ◌||◌, eqb, ltb, leb, ◌⊎◌, MatchBool, length, sym, refl, ap, ◌∙◌, inl, inr, arith}
+use Rattle.std.specs.List.{AllWithin, HoldsAt, range_with_len}
+use Rattle.std.proofs.lemmas.Bool.{le-leb, lt-ltb, le-ltb, cases_lt, lt-leb, eq-eqb, ne_eqb}
+use Rattle.std.proofs.lemmas.List.FromFn.{length-range_with_len, get_or-range_with_len}
 use Rattle.machine.specs.declared.types.Register.{Register as Fields}
-use Rattle.machine.specs.Layout.{eight_ary, lines_of, every, counter_limit}
+use Rattle.machine.specs.Layout.{eight_ary, lines_of, every, all_within}
 use Rattle.machine.specs.History.{journal_in, map_valid, register_valid}
 use Rattle.machine.specs.Words.{row, bit}
 use Rattle.machine.specs.Encoding.{journal_meant, register_meant}
-use Rattle.machine.proofs.Basics.{every_same}
+use Rattle.machine.proofs.Basics.{every_same, every_from, every_fails}
+
+-- What a test of each place from m on answered, where n places are tested.
+pub every_past : (m n : ℕ) (p : ℕ → Bool) (r : Bool) → m ≤ n → MatchBool r (AllWithin (λ j. p j ≡ true) (range_with_len m (n - m)) 0 (length (range_with_len m (n - m)))) ((k : ℕ) × (k < length (range_with_len m (n - m))) × HoldsAt (λ j. p j ≡ false) (range_with_len m (n - m)) k) → r ≡ every n (λ j. ltb j m || p j)
+every_past m n p true l h = sym (every_from n (λ j. ltb j m || p j) (λ j k. at j k (cases_lt j m)))
+  where
+    at : (j : ℕ) → j < n → (j < m) ⊎ (m ≤ j) → (ltb j m || p j) ≡ true
+    at j k (inl y) = ap (λ b. b || p j) (lt-ltb j m y)
+    at j k (inr y) =
+        let e : m + (j - m) ≡ j = omega arith in
+        let d : j - m < n - m = omega arith in
+        ap (λ b. b || p j) (le-ltb j m y) ∙ ap p (sym (get_or-range_with_len m (n - m) (j - m) 0 d ∙ e)) ∙ h (j - m) 0 (omega arith) (omega (arith, length-range_with_len m (n - m)))
+every_past m n p false l h =
+    let d : h.0 < n - m = omega (arith, h.1, length-range_with_len m (n - m)) in
+    let t = h.2 0 in
+    sym (every_fails n (λ j. ltb j m || p j) (m + h.0) (omega (arith, d)) (ap (λ b. b || p (m + h.0)) (le-ltb (m + h.0) m (omega arith)) ∙ ap p (sym (get_or-range_with_len m (n - m) h.0 0 d)) ∙ t))
 
 module _ (f : Fields) where
   abbrev roots_part : Bool
-  roots_part = every 8 (λ i. leb (row f.roots i) counter_limit)
+  roots_part = all_within (row f.roots)
 
   abbrev map_part : ℕ → Bool
   map_part n = every 640 (λ j. ltb j n || not (bit f.dirty j))
@@ -49,7 +66,7 @@ module _ (f : Fields) where
   Verdict b = register_valid eight_ary (register_meant f) ≡ b
 
   in_parts : Verdict (valid first_part levels_part roots_part own_map journal_part)
-  unfolding register_valid register_meant
+  unfolding register_valid register_meant all_within
   in_parts = refl
 
   false_2 : (a c d e : Bool) → valid a false c d e ≡ false
@@ -70,18 +87,13 @@ module _ (f : Fields) where
   pub not_formatted : (f.formatted ≡ 1 → ⊥) → Verdict false
   not_formatted h = in_parts ∙ ap (λ a. valid a levels_part roots_part own_map journal_part) (ne_eqb f.formatted 1 h)
 
-  bad_levels : levels_part ≡ false → Verdict false
-  bad_levels h = in_parts ∙ ap (λ b. valid first_part b roots_part own_map journal_part) h ∙ false_2 first_part roots_part own_map journal_part
-
-  pub too_few_levels : f.levels < 1 → Verdict false
-  too_few_levels h = bad_levels (ap (λ b. b && leb f.levels 4) (lt-leb 1 f.levels h))
-
-  pub too_many_levels : 4 < f.levels → Verdict false
-  too_many_levels h = bad_levels (ap (λ b. leb 1 f.levels && b) (lt-leb f.levels 4 h) ∙ go (leb 1 f.levels))
+  -- Of any number of levels but 1 to 4 there is no board.
+  pub no_levels : (1 ≤ f.levels → 4 < f.levels) → Verdict false
+  no_levels h = in_parts ∙ ap (λ b. valid first_part b roots_part own_map journal_part) (out (cases_lt f.levels 1)) ∙ false_2 first_part roots_part own_map journal_part
     where
-      go : (x : Bool) → (x && false) ≡ false
-      go true = refl
-      go false = refl
+      out : (f.levels < 1) ⊎ (1 ≤ f.levels) → levels_part ≡ false
+      out (inl k) = rw (lt-leb 1 f.levels k)
+      out (inr k) = rw (le-leb 1 f.levels k, lt-leb f.levels 4 (h k))
 
   pub bad_roots : roots_part ≡ false → Verdict false
   bad_roots h = in_parts ∙ ap (λ c. valid first_part levels_part c own_map journal_part) h ∙ false_3 first_part levels_part own_map journal_part

@@ -7,7 +7,7 @@ use Rattle.suite.specs.Scheme.{Body, Scheme}
 use Rattle.board.specs.Meaning.{Power}
 use Rattle.machine.specs.Layout.{Shape, TreeLaws}
 use Rattle.machine.specs.Store.{line_at, Log, Write, BoardState, after_writes, log_after, commits_in, Cut}
-use Rattle.machine.specs.Faults.{number, Fault, fault, not_data, power_lost}
+use Rattle.machine.specs.Faults.{Fault, fault, not_data, power_lost}
 use Rattle.machine.specs.Plans.{Slot, Table, is_dirty, View, Run, stop, commit_under, write_at, write_call, flush_call}
 use Rattle.machine.specs.History.{World, Answer, done, refused, power_lost_at, answer_of, chip_of, after, view_of, counter_in, body_in, shape_of, Ran}
 use Rattle.machine.specs.Laws.{Stands, CommitsNext, SameCommit}
@@ -131,7 +131,7 @@ module _ (shapes : ℕ → Shape) (S : Scheme) (w : World) (L : TreeLaws (shape_
   beyond a b h k p c =
       record {
         committed = λ m f. absurd (none≢some (sym (answer_done (stop v (fault not_data a)) k m le f).1));
-        half = λ y m f. (λ z. absurd (omega (arith, z.0)), λ z. let u : ◌≡◌ {A = ℕ} 1 10 = ap number (ap (λ q. q.cause) (is y m f) ∙ z.0) in absurd (omega arith));
+        half = λ y m f. (λ z. absurd (omega (arith, z.0)), λ z. absurd (cc (is y m f)));
         keeps = λ q i d. (refl, refl);
       }
     where

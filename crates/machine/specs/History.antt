@@ -1,5 +1,5 @@
 -- A board's history: what can happen to it, and what each event leaves.
-use Rattle.std.specs.Prelude.{◌≡◌, ℕ, ◌+◌, ◌<◌, ◌≤◌, Bool, true, cond, not, ◌&&◌, ◌||◌, leb, ◌⊎◌, List, [], ◌∷◌, length, ◌==◌, nat_le, nat_lt}
+use Rattle.std.specs.Prelude.{◌≡◌, ℕ, ◌+◌, ◌<◌, ◌≤◌, Bool, true, cond, not, ◌&&◌, ◌||◌, ◌⊎◌, List, [], ◌∷◌, length, ◌==◌, nat_le, nat_lt}
 use Rattle.std.proofs.Math.Option.{Option, some, none}
 use Rattle.suite.specs.Scheme.{Body, Line, Scheme, right}
 use Rattle.board.specs.Meaning.{Power}
@@ -95,7 +95,7 @@ journal_in T (some n) = nat_lt n.at T.lines
 
 -- Whether no root counter is above the limit.
 abbrev pub roots_valid : Shape → Body → Bool
-roots_valid T roots = every (T.arity T.lines) (λ i. leb (roots i) (T.limit (T.child T.lines i)))
+roots_valid T roots = every (T.arity T.lines) (λ i. nat_le (roots i) (T.limit (T.child T.lines i)))
 
 -- Whether none of the 640 bits of a dirty map is set beyond the last node.
 abbrev pub map_valid : Shape → (ℕ → Bool) → Bool

@@ -1,5 +1,5 @@
 -- The tree of counters by its arithmetic, and the few functions on numbers that the definitions use.
-use Rattle.std.specs.Prelude.{◌≡◌, ℕ, zero, suc, ◌+◌, ◌-◌, ◌*◌, ◌/◌, ◌%◌, ◌^◌, ◌<◌, ◌≤◌, Bool, true, cond, ◌&&◌, ◌==◌, nat_lt}
+use Rattle.std.specs.Prelude.{◌≡◌, ℕ, zero, suc, ◌+◌, ◌-◌, ◌*◌, ◌/◌, ◌%◌, ◌^◌, ◌<◌, ◌≤◌, Bool, true, cond, ◌&&◌, ◌==◌, nat_le, nat_lt}
 use Rattle.std.proofs.Math.Option.{Option, some, none}
 
 -- A layout of lines: the data lines come first, then the nodes. The number of all lines is also the address that stands for the root.
@@ -79,6 +79,10 @@ depth_by above n (suc f) a = cond (nat_lt a n) (suc (depth_by above n f (above a
 -- The largest counter, 2 ^ 48 − 1.
 abbrev pub counter_limit : ℕ
 counter_limit = 281474976710655
+
+-- Whether no counter of a node is above the limit.
+unfoldable pub all_within : (ℕ → ℕ) → Bool
+all_within f = every 8 (λ i. nat_le (f i) counter_limit)
 
 -- The layout with eight counters to a node, at h levels.
 abbrev pub eight_ary : ℕ → Shape

@@ -1,4 +1,5 @@
 pub mod Layout
+pub mod Layouts
 pub mod Store
 pub mod Faults
 pub mod Plans

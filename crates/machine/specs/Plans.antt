@@ -1,5 +1,5 @@
 -- The calls as plans: what each reads, what it writes in which order while power lasts, and how it ends.
-use Rattle.std.specs.Prelude.{ℕ, zero, suc, ◌-◌, ◌%◌, Bool, true, false, cond, not, ◌&&◌, leb, List, [], ◌∷◌, ◌++◌, ◌==◌, nat_le, nat_lt}
+use Rattle.std.specs.Prelude.{ℕ, zero, suc, ◌-◌, ◌%◌, Bool, true, false, cond, not, ◌&&◌, List, [], ◌∷◌, ◌++◌, ◌==◌, nat_le, nat_lt}
 use Rattle.std.proofs.Math.Option.{Option, some, none}
 use Rattle.suite.specs.Scheme.{Body, Line, Scheme, right, mix}
 use Rattle.machine.specs.Layout.{Shape, update, sum_to, every, first, clip, restored}
@@ -142,7 +142,7 @@ new_register S h = record { formatted = 1; levels = h; suite = S.number; roots =
 module _ (T : Shape) (S : Scheme) where
   -- Whether a node's line has the right tag under the counter, and no counter above the limit.
   unfoldable pub node_valid : (ℕ → Line) → ℕ → ℕ → Bool
-  node_valid m p c = right S p c (m p) && every (T.arity p) (λ i. leb ((m p).words i) (T.limit (T.child p i)))
+  node_valid m p c = right S p c (m p) && every (T.arity p) (λ i. nat_le ((m p).words i) (T.limit (T.child p i)))
 
   -- Counter i in the line of node p, whose own counter came before.
   abbrev pub in_line : (ℕ → Line) → ℕ → ℕ → Outcome ℕ → Outcome ℕ

@@ -1,9 +1,17 @@
-// Restoring a counter from a stored one and ten low bits.
+// The largest counter, and restoring a counter from a stored one and ten low bits.
 ghost use Rattle.std.specs.Prelude.{◌≡◌, ℕ, ◌+◌, ◌%◌, ◌<◌, ◌≤◌, Some, MatchOption};
-ghost use Rattle.machine.specs.Layout.{restored, counter_limit};
+ghost use Rattle.machine.specs.Layout.{restored, counter_limit, all_within};
+ghost use Rattle.machine.specs.Words.{row};
 
 // The largest counter.
 pub const LIMIT: u64 = 281_474_976_710_655;
+
+// Whether none of a node's counters is above the limit.
+pub fn within_limit(counters: &[u64; 8]) -> bool
+    ensures { result ≡ all_within (row counters.now) }
+{
+    counters.iter().all(|counter| *counter <= LIMIT)
+}
 
 // A child's counter: the smallest not below the one that its parent's line stores that agrees with the child's tag in the ten low bits; none where that is above the limit.
 // It is never above the true counter, and is the true one if that moved by less than 1,024.

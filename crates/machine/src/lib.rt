@@ -2,18 +2,20 @@
 #![tactic(auto)]
 
 pub mod counter;
+pub mod layout;
 pub mod register;
 #[cfg(test)]
 mod tests;
 pub mod types;
 pub mod validity;
 
-ghost use Rattle.std.specs.Prelude.{◌≡◌, [], ◌∷◌};
+ghost use Rattle.std.specs.Prelude.{◌≡◌, ◌≤◌, [], ◌∷◌};
 ghost use Rattle.machine.specs.Layout.{lines_of, counter_limit};
 ghost use Rattle.machine.specs.Promises.{HistoryHolds, LawsDecide};
 ghost use Rattle.machine.specs.Cases.{WorkedCases};
 
 use crate::counter::LIMIT;
+use crate::layout::Layout;
 
 // The largest counter.
 fn largest_counter() -> u64
@@ -31,11 +33,19 @@ pub fn history_holds() -> u64
     largest_counter()
 }
 
+// Lines for this many levels.
+fn lines_at(levels: usize) -> u64
+    requires { (1 ≤ levels) × (levels ≤ 4) }
+    ensures { result ≡ lines_of levels }
+{
+    Layout { levels }.lines() as u64
+}
+
 // Lines for one to four levels.
 fn line_counts() -> [u64; 4]
     ensures { result ≡ lines_of 1 ∷ lines_of 2 ∷ lines_of 3 ∷ lines_of 4 ∷ [] }
 {
-    [8, 72, 584, 4680]
+    [lines_at(1), lines_at(2), lines_at(3), lines_at(4)]
 }
 
 // The worked cases hold of the definitions: see specs/Cases.antt. The lines for one to four levels are answered.

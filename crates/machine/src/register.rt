@@ -7,103 +7,55 @@ use crate::types::{Journal, Register};
 use board::types::Line;
 
 // Stands for the address of no journal.
-const NO_ADDRESS: u64 = 18_446_744_073_709_551_615;
+const NO_ADDRESS: u64 = u64::MAX;
 
-// The root's counters.
-fn roots_in(words: &[u64; 32]) -> [u64; 8]
-    ensures { result ≡ take 8 (drop 3 words.now) }
+// As many words as the result holds, from a place on.
+fn part<const N: usize>(words: &[u64; 32], at: usize) -> [u64; N]
+    requires { at + N ≤ 32 }
+    ensures { result ≡ take N (drop at words.now) }
 {
-    let mut roots = [0; 8];
-    roots.copy_from_slice(&words[3..11]);
-    roots
+    let mut part = [0; N];
+    part.copy_from_slice(&words[at..at + N]);
+    part
 }
 
-// The body of the journal's line.
-fn body_in(words: &[u64; 32]) -> [u64; 8]
-    ensures { result ≡ take 8 (drop 13 words.now) }
+// Puts a part of the words in its place.
+fn put<const N: usize>(words: &mut [u64; 32], at: usize, part: &[u64; N])
+    requires { at + N ≤ 32 }
+    ensures is { words.new ≡ take at words.old ++ (part.now ++ drop (at + N) words.old) }
+    ensures long { length part.now ≡ N }
 {
-    let mut body = [0; 8];
-    body.copy_from_slice(&words[13..21]);
-    body
-}
-
-// The words of the dirty map.
-fn dirty_in(words: &[u64; 32]) -> [u64; 10]
-    ensures { result ≡ take 10 (drop 22 words.now) }
-{
-    let mut dirty = [0; 10];
-    dirty.copy_from_slice(&words[22..32]);
-    dirty
-}
-
-// The words with the root's counters in their place.
-fn put_roots(mut words: [u64; 32], roots: &[u64; 8]) -> [u64; 32]
-    ensures { result ≡ take 3 words ++ (roots.now ++ drop 11 words) }
-{
-    words[3..11].copy_from_slice(roots);
-    words
-}
-
-// The words with the body of the journal's line in its place.
-fn put_body(mut words: [u64; 32], body: &[u64; 8]) -> [u64; 32]
-    ensures is { result ≡ take 13 words ++ (body.now ++ drop 21 words) }
-    ensures long { length body.now ≡ 8 }
-{
-    words[13..21].copy_from_slice(body);
-    words
-}
-
-// The words with the dirty map in its place.
-fn put_dirty(mut words: [u64; 32], dirty: &[u64; 10]) -> [u64; 32]
-    ensures { result ≡ take 22 words ++ (dirty.now ++ drop 32 words) }
-{
-    words[22..32].copy_from_slice(dirty);
-    words
+    words[at..at + N].copy_from_slice(part);
 }
 
 // The journal, unless there is none.
 fn journal_in(words: &[u64; 32]) -> Option<Journal>
     ensures { result ≡ journal_decoded (row words.now 12) words.now }
 {
-    let at = words[12];
-    if at == NO_ADDRESS {
-        return None;
+    match words[12] {
+        NO_ADDRESS => None,
+        at => Some(Journal {
+            at,
+            line: Line {
+                body: part(words, 13),
+                tag: words[21],
+            },
+        }),
     }
-    Some(Journal {
-        at,
-        line: Line {
-            body: body_in(words),
-            tag: words[21],
-        },
-    })
 }
 
-// The words with a journal in its place.
-fn put_journal(mut words: [u64; 32], journal: &Option<Journal>) -> [u64; 32]
-    ensures is { result ≡ with_journal words journal.now }
+// Puts a journal in its place.
+fn put_journal(words: &mut [u64; 32], journal: &Option<Journal>)
+    ensures is { words.new ≡ with_journal words.old journal.now }
     ensures long { EightWords journal.now }
 {
-    let Some(j) = journal else {
-        words[12] = NO_ADDRESS;
-        return words;
-    };
-    words[12] = j.at;
-    words[21] = j.line.tag;
-    put_body(words, &j.line.body)
-}
-
-// The fields of 32 words.
-fn fields_in(words: &[u64; 32]) -> Register
-    ensures { result ≡ decoded words.now }
-{
-    Register {
-        formatted: words[0],
-        levels: words[1],
-        suite: words[2],
-        roots: roots_in(words),
-        dirty_sum: words[11],
-        journal: journal_in(words),
-        dirty: dirty_in(words),
+    match journal {
+        None => words[12] = NO_ADDRESS,
+        Some(entry) => {
+            words[12] = entry.at;
+            words[21] = entry.line.tag;
+            put(words, 13, &entry.line.body);
+        }
     }
 }
 
@@ -115,7 +67,15 @@ impl Register {
         ensures again { encoded result ≡ said words.now }
         ensures meant { words_of (register_meant result) ≡ said words.now }
     {
-        fields_in(words)
+        Register {
+            formatted: words[0],
+            levels: words[1],
+            suite: words[2],
+            roots: part(words, 3),
+            dirty_sum: words[11],
+            journal: journal_in(words),
+            dirty: part(words, 22),
+        }
     }
 
     // The 32 words of the fields, from which the fields come back.
@@ -128,9 +88,27 @@ impl Register {
         words[0] = self.formatted;
         words[1] = self.levels;
         words[2] = self.suite;
+        put(&mut words, 3, &self.roots);
         words[11] = self.dirty_sum;
-        let with_roots = put_roots(words, &self.roots);
-        let with_journal = put_journal(with_roots, &self.journal);
-        put_dirty(with_journal, &self.dirty)
+        put_journal(&mut words, &self.journal);
+        put(&mut words, 22, &self.dirty);
+        words
+    }
+}
+
+// `From` carries one relation, so `decode` and `encode` stay, with all that they promise.
+impl From<&[u64; 32]> for Register {
+    ghost from_gives = { λ words register. register ≡ decoded words.now };
+
+    fn from(words: &[u64; 32]) -> Register {
+        Register::decode(words)
+    }
+}
+
+impl From<&Register> for [u64; 32] {
+    ghost from_gives = { λ register words. words ≡ encoded register.now };
+
+    fn from(register: &Register) -> [u64; 32] {
+        register.encode()
     }
 }

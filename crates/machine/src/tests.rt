@@ -7,7 +7,7 @@ fn formatted() -> [u64; 32] {
     words[0] = 1;
     words[1] = 2;
     words[2] = 2;
-    words[12] = 18_446_744_073_709_551_615;
+    words[12] = u64::MAX;
     words
 }
 
@@ -21,7 +21,8 @@ fn formatted_with(place: usize, word: u64) -> [u64; 32] {
 }
 
 fn comes_back(words: [u64; 32]) -> bool {
-    Register::decode(&words).encode() == words
+    let register = Register::from(&words);
+    Register::decode(&words) == register && <[u64; 32]>::from(&register) == words
 }
 
 fn is_valid_with(place: usize, word: u64) -> bool {

@@ -1,50 +1,41 @@
 -- Reading a header field by field.
-use Rattle.std.proofs.Common.{◌≡◌, ℕ, List, ◌∷◌, IsErrAnd, Some, None, Err, codes, Option, Result, sym, ap, ◌∙◌, subst, Bor}
+use Rattle.std.proofs.Common.{◌≡◌, ℕ, List, [], ◌∷◌, IsErrAnd, Some, None, Ok, Err, codes, Option, Bor, ◌==◌, ap, ◌∙◌, subst}
 use Rattle.std.proofs.lemmas.Result.{err_from_is_err_and}
-use Rattle.std.specs.Option.{option_map, ok_or}
-use Rattle.text.specs.Spelling.{Reads, After, Decimal, Keys, FirstLine, lines_of}
-use Rattle.text.specs.declared.types.KeyPair.{KeyPair}
-use Rattle.script.specs.Script.{Limit, SuiteLine, Outcome, Field, Complete}
-use Rattle.script.specs.declared.types.Header.{Header}
+use Rattle.std.specs.Option.{option_map}
+use Rattle.std.specs.List.{find}
+use Rattle.text.specs.Spelling.{Reads, After, Decimal, lines_of}
+use Rattle.text.proofs.Single.{decimal_once, after_once}
+use Rattle.text.specs.declared.lines.BadLine.{BadLine}
+use Rattle.script.specs.Script.{Outcome, FirstRead, LineRead, SuiteLine, Field}
 
--- where a `?` left the function
-pub broke : {A X : Type 0} (r : Result X ℕ) (y n : ℕ) (o : Option A) → IsErrAnd r (λ z. z ≡ y) → ◌≡◌ {A = Result A ℕ} (Err y) (ok_or o n) → o ≡ None → r ≡ Err n
-broke r y n o h v e =
-    let p = err_from_is_err_and r h in
-    let w : ◌≡◌ {A = Result _ ℕ} (Err y) (Err n) = v ∙ ap (λ x. ok_or x n) e in
-    let k : y ≡ n = cc in
-    p.1 ∙ ap Err (p.2 ∙ k)
+-- a reader that answers what a line spells
+abbrev pub AnswersFor : {A : Type 0} → (List ℕ → A → Type 0) → (List ℕ → Option A → Type 0) → Type 0
+AnswersFor {A} Spells Reader = (l : List ℕ) (o : Option A) → Reader l o → Reads Spells l o
 
--- what `next_line` and a reader of its line answered
-abbrev Split : Type 0
-Split = Option (Bor (List ℕ) × Bor (List ℕ))
+module _ {A H : Type 0} (Spells : List ℕ → A → Type 0) (Next : A → List (List ℕ) → Type 0) (r : Outcome H) where
+  module _ (Reader : List ℕ → Option A → Type 0) (n : ℕ) where
+    field_first : (ls : List (List ℕ)) (a : A) (rest : Bor (List ℕ)) → FirstRead Reader n ls (Ok (a, rest)) → AnswersFor Spells Reader → Next a (lines_of rest.now) → Field n Spells ls r Next
+    field_first [] a rest h reads k = absurd (cc)
+    field_first (l ∷ ls) a rest (None, h, e) reads k = absurd (cc)
+    field_first (l ∷ ls) a rest (Some b, h, e) reads k = (Some b, reads l (Some b) h, subst (λ x. Next x ls) e.0 (subst (Next a) e.1 k))
 
-abbrev Lines : List ℕ → Split → Type 0
-Lines t o = FirstLine t (option_map (λ (p : Bor (List ℕ) × Bor (List ℕ)). (p.0.now, p.1.now)) o)
+    bad_first : (ls : List (List ℕ)) (e : BadLine) → FirstRead Reader n ls (Err e) → AnswersFor Spells Reader → r ≡ Err e → Field n Spells ls r Next
+    bad_first [] e h reads k = cc
+    bad_first (l ∷ ls) e (None, h, f) reads k = (None, reads l None h, cc)
+    bad_first (l ∷ ls) e (Some b, h, f) reads k = absurd f
 
-module _ {A : Type 0} (n : ℕ) (Spells : List ℕ → A → Type 0) (Next : A → List (List ℕ) → Type 0) (r : Outcome Header) (t : List ℕ) (o : Split) (h : Lines t o) where
-  pub missing : o ≡ None → r ≡ Err n → Field n Spells (lines_of t) r Next
-  missing e f = subst (λ (x : List ℕ). Field n Spells (lines_of x) r Next) (sym (subst (Lines t) e h)) f
+  -- the line spells a value
+  pub field : {Reader : List ℕ → Option A → Type 0} {n : ℕ} {ls : List (List ℕ)} {a : A} {rest : Bor (List ℕ)} → LineRead Reader n ls (Ok (a, rest)) → AnswersFor Spells Reader → Next a (lines_of rest.now) → Field n Spells ls r Next
+  field {Reader} {n} {ls} {a} {rest} h reads k = field_first Reader n ls a rest h.first reads k
 
-  module _ (p : Bor (List ℕ) × Bor (List ℕ)) (e : o ≡ Some p) where
-    line : lines_of t ≡ p.0.now ∷ lines_of p.1.now
-    line = (subst (Lines t) e h).0
+  -- it is missing or unreadable
+  pub bad_field : {Reader : List ℕ → Option A → Type 0} {n : ℕ} {ls : List (List ℕ)} {e : BadLine} → LineRead Reader n ls (Err e) → AnswersFor Spells Reader → IsErrAnd r (λ z. z ≡ e) → Field n Spells ls r Next
+  bad_field {Reader} {n} {ls} {e} h reads k = let p = err_from_is_err_and r k in bad_first Reader n ls e h.first reads (p.1 ∙ ap Err p.2)
 
-    pub unread : (q : Option A) → Reads Spells p.0.now q → q ≡ None → r ≡ Err n → Field n Spells (lines_of t) r Next
-    unread q k f g = subst (λ (ls : List (List ℕ)). Field n Spells ls r Next) (sym line) (None, subst (Reads Spells p.0.now) f k, g)
-
-    pub field : (q : Option A) → Reads Spells p.0.now q → (a : A) → q ≡ Some a → Next a (lines_of p.1.now) → Field n Spells (lines_of t) r Next
-    field q k a f g = subst (λ (ls : List (List ℕ)). Field n Spells ls r Next) (sym line) (Some a, subst (Reads Spells p.0.now) f k, g)
-
-module _ (suites : List ℕ) (r : Outcome Header) where
-  abbrev pub BehindKeys : ℕ → ℕ → ℕ → KeyPair → List (List ℕ) → Type 0
-  BehindKeys levels slots suite keys ls = Field 5 (After (codes "fuse=") Limit) ls r (λ fuse. λ more. Complete (record { levels = levels; slots = slots; suite = suite; keys = keys; fuse = fuse }) more r)
-
-  abbrev pub BehindSuite : ℕ → ℕ → ℕ → List (List ℕ) → Type 0
-  BehindSuite levels slots suite ls = Field 4 (After (codes "key=") Keys) ls r (BehindKeys levels slots suite)
-
-  abbrev pub BehindSlots : ℕ → ℕ → List (List ℕ) → Type 0
-  BehindSlots levels slots ls = Field 3 (SuiteLine suites) ls r (BehindSuite levels slots)
-
-  abbrev pub BehindLevels : ℕ → List (List ℕ) → Type 0
-  BehindLevels levels ls = Field 2 (After (codes "slots=") Decimal) ls r (BehindSlots levels)
+-- a number that no suite at hand has
+pub no_suite : {K : Type 0} (suites : List (ℕ × K)) (t : List ℕ) (n : ℕ) → After (codes "suite=") Decimal t n → None ≡ find (λ s. s.0 == n) suites → (k : K) → SuiteLine suites t k → ⊥
+no_suite {K} suites t n h none k w =
+    let e : w.0 ≡ n = after_once (codes "suite=") Decimal decimal_once t w.0 n w.1 h in
+    let f : option_map (λ (s : ℕ × K). s.1) (find (λ s. s.0 == n) suites) ≡ Some k = subst (λ m. option_map (λ (s : ℕ × K). s.1) (find (λ s. s.0 == m) suites) ≡ Some k) e w.2 in
+    let g : option_map (λ (s : ℕ × K). s.1) None ≡ Some k = ap (option_map (λ (s : ℕ × K). s.1)) none ∙ f in
+    cc

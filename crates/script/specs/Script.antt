@@ -1,8 +1,11 @@
 -- How a script is spelled, and how a row is printed.
-use Rattle.std.specs.Prelude.{◌≡◌, ℕ, ◌<◌, List, [], ◌∷◌, ◌++◌, length, Some, None, Ok, Err, codes, Option, Result, MatchOption, slice_index}
+use Rattle.std.specs.Prelude.{◌≡◌, ℕ, List, [], ◌∷◌, ◌++◌, Some, None, Ok, Err, codes, Option, Result, IsOkAnd, MatchOption, ◌==◌}
+use Rattle.std.specs.Option.{option_map}
+use Rattle.std.specs.List.{find}
 use Rattle.std.specs.Borrow.{Bor}
 use Rattle.text.specs.Spelling.{Reads, After, Decimal, Numbers, Keys, lines_of}
 use Rattle.text.specs.Writing.{row}
+use Rattle.text.specs.declared.lines.BadLine.{BadLine}
 use Rattle.script.specs.declared.types.Header.{Header}
 use Rattle.script.specs.declared.types.Step.{Step}
 use Rattle.script.specs.declared.types.Step.TheVariants.{Read, Write, Flush, Restart, Recharge, Copy, Put}
@@ -45,27 +48,40 @@ Lettered c u s = (letter_of s ≡ c) × Arguments u s
 abbrev pub StepLine : List ℕ → Step → Type 0
 StepLine t s = (u : List ℕ) × (t ≡ codes "step=" ++ (letter_of s ∷ u)) × Arguments u s
 
--- The number of a suite that is among those at hand.
-abbrev pub SuiteLine : List ℕ → List ℕ → ℕ → Type 0
-SuiteLine suites t n = After (codes "suite=") Decimal t n × ((i : ℕ) × (i < length suites) × (slice_index suites i ≡ n))
+-- The number of a suite, which is the first at hand that has this number.
+abbrev pub SuiteLine : {K : Type 0} → List (ℕ × K) → List ℕ → K → Type 0
+SuiteLine suites t k = (n : ℕ) × After (codes "suite=") Decimal t n × (option_map (λ s. s.1) (find (λ s. s.0 == n) suites) ≡ Some k)
 
 -- What is read of the first lines: their values and the text behind them, or the number of the first of them that is
 -- missing or unreadable.
 abbrev pub Outcome : Type 0 → Type 0
-Outcome A = Result (A × Bor (List ℕ)) ℕ
+Outcome A = Result (A × Bor (List ℕ)) BadLine
+
+-- The line of number n is missing or unreadable.
+abbrev pub bad_line : ℕ → BadLine
+bad_line n = record { number = n }
+
+-- The value that a reader answers at the first of some lines, which has number n, and the lines behind it.
+abbrev pub FirstRead : {A : Type 0} → (List ℕ → Option A → Type 0) → ℕ → List (List ℕ) → Outcome A → Type 0
+FirstRead Answers n [] r = r ≡ Err (bad_line n)
+FirstRead {A} Answers n (l ∷ ls) r = (o : Option A) × Answers l o × MatchOption o (r ≡ Err (bad_line n)) (λ a. IsOkAnd r (λ p. (p.0 ≡ a) × (lines_of p.1.now ≡ ls)))
+
+-- The same as a record, by which a proof finds the reader, the number and the lines.
+pub record LineRead {A : Type 0} (Answers : List ℕ → Option A → Type 0) (n : ℕ) (ls : List (List ℕ)) (r : Outcome A) : Type 0 where
+  pub first : FirstRead Answers n ls r
 
 -- The first of some lines, which has number n, is to spell a value; so on with that and the lines behind it.
-abbrev pub Field : {A : Type 0} → ℕ → (List ℕ → A → Type 0) → List (List ℕ) → Outcome Header → (A → List (List ℕ) → Type 0) → Type 0
-Field n Spells [] r Next = r ≡ Err n
-Field {A} n Spells (l ∷ ls) r Next = (o : Option A) × Reads Spells l o × MatchOption o (r ≡ Err n) (λ a. Next a ls)
+abbrev pub Field : {A H : Type 0} → ℕ → (List ℕ → A → Type 0) → List (List ℕ) → Outcome H → (A → List (List ℕ) → Type 0) → Type 0
+Field n Spells [] r Next = r ≡ Err (bad_line n)
+Field {A} n Spells (l ∷ ls) r Next = (o : Option A) × Reads Spells l o × MatchOption o (r ≡ Err (bad_line n)) (λ a. Next a ls)
 
 -- All values are there, and these lines are left.
-abbrev pub Complete : Header → List (List ℕ) → Outcome Header → Type 0
+abbrev pub Complete : {K : Type 0} → Header K → List (List ℕ) → Outcome (Header K) → Type 0
 Complete h ls (Ok p) = (p.0 ≡ h) × (lines_of p.1.now ≡ ls)
-Complete h ls (Err n) = ⊥
+Complete h ls (Err e) = ⊥
 
 -- The header: levels, slots, suite, key and fuse, in this order, a line each.
-abbrev pub HeaderRead : List ℕ → List (List ℕ) → Outcome Header → Type 0
+abbrev pub HeaderRead : {K : Type 0} → List (ℕ × K) → List (List ℕ) → Outcome (Header K) → Type 0
 HeaderRead suites ls r =
     Field 1 (After (codes "levels=") Decimal) ls r (λ levels ls₁.
     Field 2 (After (codes "slots=") Decimal) ls₁ r (λ slots ls₂.

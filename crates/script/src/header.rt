@@ -1,36 +1,28 @@
-ghost use Rattle.std.specs.Prelude.{codes};
+ghost use Rattle.std.specs.Prelude.{◌≡◌, codes, ◌==◌};
+ghost use Rattle.std.specs.Option.{option_map};
+ghost use Rattle.std.specs.List.{find};
 ghost use Rattle.text.specs.Spelling.{Reads, After, Decimal, Keys, lines_of};
-ghost use Rattle.script.specs.Script.{Limit, SuiteLine, HeaderRead};
+ghost use Rattle.std.specs.Fn.{FnReturnsAt};
+ghost use Rattle.script.specs.Script.{Limit, SuiteLine, LineRead, HeaderRead};
 
 use crate::step::read_limit;
 use crate::types::Header;
-use text::types::KeyPair;
-use text::{after, keys, next_line, number};
+use text::lines::BadLine;
+use text::{after, key_line, next_line, number_after};
 
-// A key word and a number.
-fn read_number(line: &[u8], word: &[u8]) -> Option<u64>
-    ensures { Reads (After word.now Decimal) line.now result }
+// The first of some suites that has this number.
+fn find_suite<K>(suites: &[(u64, K)], wanted: u64) -> Option<&(u64, K)>
+    ensures { option_map (λ s. s.now) result ≡ find (λ s. s.0 == wanted) suites.now }
 {
-    number(after(line, word)?)
+    suites.iter().find(|(number, _)| *number == wanted)
 }
 
-// The number of a suite that is at hand.
-fn read_suite(line: &[u8], suites: &[u64]) -> Option<u64>
+// A suite that is at hand.
+fn read_suite<K: Copy>(line: &[u8], suites: &[(u64, K)]) -> Option<K>
     ensures { Reads (SuiteLine suites.now) line.now result }
 {
-    let suite = read_number(line, b"suite=")?;
-    if suites.contains(&suite) {
-        Some(suite)
-    } else {
-        None
-    }
-}
-
-// The two keys.
-fn read_keys(line: &[u8]) -> Option<KeyPair>
-    ensures { Reads (After (codes "key=") Keys) line.now result }
-{
-    keys(after(line, b"key=")?)
+    let (_, suite) = find_suite(suites, number_after(line, b"suite=")?)?;
+    Some(*suite)
 }
 
 // The fuse.
@@ -40,21 +32,33 @@ fn read_fuse(line: &[u8]) -> Option<Option<u64>>
     read_limit(after(line, b"fuse=")?)
 }
 
+// What the first line of a text spells, and the text behind that line, which has this number.
+fn read_line<T, F: Fn(&[u8]) -> Option<T>>(
+    text: &[u8],
+    number: u64,
+    read: F,
+) -> Result<(T, &[u8]), BadLine>
+    requires { F.IsAlwaysCallable read }
+    ensures { LineRead (FnReturnsAt F.Fn read) number (lines_of text.now) result }
+{
+    let (line, rest) = next_line(text).ok_or(BadLine { number })?;
+    let value = read(line).ok_or(BadLine { number })?;
+    Ok((value, rest))
+}
+
 // The header, and the text behind it; or the number of its first line that is missing or unreadable. A suite that is
 // not among those at hand is unreadable.
-pub fn read_header<'a>(text: &'a [u8], suites: &[u64]) -> Result<(Header, &'a [u8]), u64>
+pub fn read_header<'a, K: Copy>(
+    text: &'a [u8],
+    suites: &[(u64, K)],
+) -> Result<(Header<K>, &'a [u8]), BadLine>
     ensures { HeaderRead suites.now (lines_of text.now) result }
 {
-    let (line, rest) = next_line(text).ok_or(1u64)?;
-    let levels = read_number(line, b"levels=").ok_or(1u64)?;
-    let (line, rest) = next_line(rest).ok_or(2u64)?;
-    let slots = read_number(line, b"slots=").ok_or(2u64)?;
-    let (line, rest) = next_line(rest).ok_or(3u64)?;
-    let suite = read_suite(line, suites).ok_or(3u64)?;
-    let (line, rest) = next_line(rest).ok_or(4u64)?;
-    let keys = read_keys(line).ok_or(4u64)?;
-    let (line, rest) = next_line(rest).ok_or(5u64)?;
-    let fuse = read_fuse(line).ok_or(5u64)?;
+    let (levels, rest) = read_line(text, 1, |line| number_after(line, b"levels="))?;
+    let (slots, rest) = read_line(rest, 2, |line| number_after(line, b"slots="))?;
+    let (suite, rest) = read_line(rest, 3, |line| read_suite(line, suites))?;
+    let (keys, rest) = read_line(rest, 4, key_line)?;
+    let (fuse, rest) = read_line(rest, 5, read_fuse)?;
     Ok((
         Header {
             levels,

@@ -8,10 +8,10 @@ use text::{after, first, number, numbers};
 pub fn read_limit(text: &[u8]) -> Option<Option<u64>>
     ensures { Reads Limit text.now result }
 {
-    if text == b"none".as_slice() {
-        return Some(None);
+    match text {
+        b"none" => Some(None),
+        _ => Some(Some(number(text)?)),
     }
-    Some(Some(number(text)?))
 }
 
 // One number behind one space.
@@ -32,16 +32,8 @@ fn read_arguments(letter: char, text: &[u8]) -> Option<Step>
             let [at, value] = numbers::<2>(text)?;
             Some(Step::Write(at, value))
         }
-        's' => if text.is_empty() {
-            Some(Step::Flush)
-        } else {
-            None
-        },
-        'd' => if text.is_empty() {
-            Some(Step::Restart)
-        } else {
-            None
-        },
+        's' => text.is_empty().then_some(Step::Flush),
+        'd' => text.is_empty().then_some(Step::Restart),
         'p' => Some(Step::Recharge(read_limit(after(text, b" ")?)?)),
         'k' => Some(Step::Copy(read_one(text)?)),
         'm' => Some(Step::Put(read_one(text)?)),

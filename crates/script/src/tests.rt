@@ -2,6 +2,7 @@ use crate::header::read_header;
 use crate::step::read_step;
 use crate::types::{Row, Step};
 use std::test::Fail;
+use text::lines::{BadLine, Lines};
 
 static STEPS: [(&[u8], Step); 9] = [
     (b"step=r 13", Step::Read(13)),
@@ -45,6 +46,8 @@ fn steps(rt: HostRuntime) {
     }
 }
 
+static SUITES: [(u64, u64); 2] = [(1, 1), (2, 2)];
+
 // Headers, and the number of the first line that is missing or unreadable.
 static HEADERS: [(&[u8], u64); 7] = [
     (b"", 1),
@@ -65,14 +68,14 @@ static HEADERS: [(&[u8], u64); 7] = [
 #[test]
 fn headers(rt: HostRuntime) -> Result<(), Fail> {
     for (text, expected) in &HEADERS {
-        match read_header(text, &[1, 2]) {
+        match read_header(text, &SUITES) {
             Ok(_) => return Err(Fail::new("a bad header was read")),
-            Err(line) => assert_eq!(rt; line, *expected),
+            Err(line) => assert_eq!(rt; line, BadLine { number: *expected }),
         }
     }
     let text =
         b"levels=3\nslots=64\nsuite=2\nkey=000102030405060708090a0b0c0d0e0f101112131415161718191A1B1C1D1E1F\nfuse=none\nstep=s";
-    match read_header(text, &[1, 2]) {
+    match read_header(text, &SUITES) {
         Ok((header, rest)) => {
             assert_eq!(rt; header.levels, 3);
             assert_eq!(rt; header.slots, 64);
@@ -85,6 +88,18 @@ fn headers(rt: HostRuntime) -> Result<(), Fail> {
         }
         Err(_) => Err(Fail::new("a header was not read")),
     }
+}
+
+#[test]
+fn lines(rt: HostRuntime) -> Result<(), Fail> {
+    let mut lines = Lines { text: b"s\n\nd" };
+    assert_eq!(rt; lines.next(), Some(b"s".as_slice()));
+    assert_eq!(rt; lines.next(), Some(b"".as_slice()));
+    assert_eq!(rt; lines.next(), Some(b"d".as_slice()));
+    assert_eq!(rt; lines.next(), None);
+    let text = BadLine { number: 3 }.to_string(rt.alloc())?;
+    assert_eq!(rt; text.as_str(), "bad=3");
+    Ok(())
 }
 
 #[test]

@@ -1,11 +1,11 @@
 use text::types::KeyPair;
 
-// What a script sets up before its steps. A fuse of none never burns out.
+// What a script sets up before its steps, with a suite of some kinds. A fuse of none never burns out.
 #[derive(Clone, Copy)]
-pub struct Header {
+pub struct Header<K> {
     pub levels: u64,
     pub slots: u64,
-    pub suite: u64,
+    pub suite: K,
     pub keys: KeyPair,
     pub fuse: Option<u64>,
 }

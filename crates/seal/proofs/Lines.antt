@@ -30,8 +30,8 @@ module _ (t : List ℕ) where
   Unread word count = (k : Kind) (ns : List ℕ) → Asked word k count t ns → ⊥
 
   none_by : Unread (codes "seal=") 10 → Unread (codes "open=") 11 → (i : Item) → ItemLine t i → ⊥
-  none_by s o (Seal k a c b) w = s k _ w
-  none_by s o (Open k a c l) w = o k _ w
+  none_by s o (Seal k n b) w = s k _ w
+  none_by s o (Open k n l) w = o k _ w
 
   no_head : (word : List ℕ) (count : ℕ) → ((p : Kind × List ℕ) → Head word t p → ⊥) → Unread word count
   no_head word count bad k ns w = bad (k, w.0) w.1

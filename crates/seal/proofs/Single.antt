@@ -7,7 +7,10 @@ use Rattle.suite.specs.Scheme.{Line, Scheme}
 use Rattle.suite.specs.Words.{row as words_in, line_in}
 use Rattle.text.specs.Spelling.{Reads, Unambiguous, Decimal, Numbers, Keys}
 use Rattle.text.proofs.Single.{decimal_once, numbers_once, keys_once, after_once}
-use Rattle.seal.specs.Items.{letter, Asked, ItemLine, number_of, SuiteLine, KeyLine}
+use Rattle.suite.specs.Kinds.{number_of}
+use Rattle.suite.specs.declared.kind.SuiteKind.{SuiteKind}
+use Rattle.suite.specs.declared.kind.SuiteKind.TheVariants.{Sip, Cmac}
+use Rattle.seal.specs.Items.{letter, Asked, ItemLine, SuiteLine, KeyLine}
 use Rattle.seal.specs.Answered.{Answered, answer_text, bad, Rows, scheme_of, Keyed, Printed, Single}
 use Rattle.seal.specs.declared.types.Kind.{Kind}
 use Rattle.seal.specs.declared.types.Kind.TheVariants.{Data, Node}
@@ -15,8 +18,6 @@ use Rattle.seal.specs.declared.types.Item.{Item}
 use Rattle.seal.specs.declared.types.Item.TheVariants.{Seal, Open}
 use Rattle.seal.specs.declared.types.Answer.{Answer}
 use Rattle.seal.specs.declared.types.Answer.TheVariants.{Sealed, Opened, Corrupt}
-use Rattle.seal.specs.declared.types.Known.{Known}
-use Rattle.seal.specs.declared.types.Known.TheVariants.{Sip, Cmac}
 
 -- a letter has one kind, a number one suite
 letter_same : (j k : Kind) → letter j ≡ letter k → j ≡ k
@@ -25,11 +26,11 @@ letter_same Data Node e = let z : ⊥ = omega (arith, e) in absurd z
 letter_same Node Data e = let z : ⊥ = omega (arith, e) in absurd z
 letter_same Node Node e = refl
 
-known_same : (s t : Known) → number_of s ≡ number_of t → s ≡ t
-known_same Sip Sip e = refl
-known_same Sip Cmac e = let z : ⊥ = omega (arith, e) in absurd z
-known_same Cmac Sip e = let z : ⊥ = omega (arith, e) in absurd z
-known_same Cmac Cmac e = refl
+suite_same : (s t : SuiteKind) → number_of s ≡ number_of t → s ≡ t
+suite_same Sip Sip e = refl
+suite_same Sip Cmac e = let z : ⊥ = omega (arith, e) in absurd z
+suite_same Cmac Sip e = let z : ⊥ = omega (arith, e) in absurd z
+suite_same Cmac Cmac e = refl
 
 asked_same : (word : List ℕ) (n : ℕ) (j k : Kind) (t ns ms : List ℕ) → Asked word j n t ns → Asked word k n t ms → (j ≡ k) × (ns ≡ ms)
 asked_same word n j k t ns ms h w =
@@ -42,26 +43,26 @@ clash : (j k : Kind) (t ns ms : List ℕ) → Asked (codes "seal=") j 10 t ns �
 clash j k t ns ms h w = let e = h.1 in let f = w.1 in let z : ◌≡◌ {A = ℕ} 115 111 = cc in omega (arith, z)
 
 item_once : Unambiguous ItemLine
-item_once t (Seal j a c b) (Seal k d e g) h w =
+item_once t (Seal j n b) (Seal k m g) h w =
     let p = asked_same (codes "seal=") 10 j k t _ _ h w in
     let q = p.1 in
-    let x : a ≡ d = cc in
-    let y : c ≡ e = cc in
+    let x : n.at ≡ m.at = cc in
+    let y : n.counter ≡ m.counter = cc in
     let z : b ≡ g = cc in
-    λ i. Seal (p.0 i) (x i) (y i) (z i)
-item_once t (Seal j a c b) (Open k d e l) h w = absurd (clash j k t _ _ h w)
-item_once t (Open j a c l) (Seal k d e g) h w = absurd (clash k j t _ _ w h)
-item_once t (Open j a c l) (Open k d e m) h w =
+    λ i. Seal (p.0 i) (record { at = x i; counter = y i }) (z i)
+item_once t (Seal j n b) (Open k m l) h w = absurd (clash j k t _ _ h w)
+item_once t (Open j n l) (Seal k m g) h w = absurd (clash k j t _ _ w h)
+item_once t (Open j n l) (Open k m o) h w =
     let p = asked_same (codes "open=") 11 j k t _ _ h w in
     let q = p.1 in
-    let x : a ≡ d = cc in
-    let y : c ≡ e = cc in
-    let r : l.body ++ (l.tag ∷ []) ≡ m.body ++ (m.tag ∷ []) = cc in
-    let z = same_from_push l.body m.body l.tag m.tag r in
-    λ i. Open (p.0 i) (x i) (y i) (record { body = z.0 i; tag = z.1 i })
+    let x : n.at ≡ m.at = cc in
+    let y : n.counter ≡ m.counter = cc in
+    let r : l.body ++ (l.tag ∷ []) ≡ o.body ++ (o.tag ∷ []) = cc in
+    let z = same_from_push l.body o.body l.tag o.tag r in
+    λ i. Open (p.0 i) (record { at = x i; counter = y i }) (record { body = z.0 i; tag = z.1 i })
 
 suite_once : Unambiguous SuiteLine
-suite_once t a b h k = known_same a b (after_once (codes "suite=") Decimal decimal_once t (number_of a) (number_of b) h k)
+suite_once t a b h k = suite_same a b (after_once (codes "suite=") Decimal decimal_once t (number_of a) (number_of b) h k)
 
 key_once : Unambiguous KeyLine
 key_once = after_once (codes "key=") Keys keys_once
@@ -78,21 +79,21 @@ line_same l m j k e =
 
 -- an item has one answer
 answer_once : (S : Scheme) (i : Item) (a b : Answer) → Answered S i a → Answered S i b → a ≡ b
-answer_once S (Seal k a c b) (Sealed l) (Sealed m) h w = ap Sealed (line_same l m h.0 w.0 (h.1 ∙ sym w.1))
-answer_once S (Seal k a c b) (Sealed l) (Opened v) h w = absurd w
-answer_once S (Seal k a c b) (Sealed l) Corrupt h w = absurd w
-answer_once S (Seal k a c b) (Opened v) y h w = absurd h
-answer_once S (Seal k a c b) Corrupt y h w = absurd h
-answer_once S (Open k a c l) (Sealed m) y h w = absurd h
-answer_once S (Open k a c l) (Opened u) (Sealed m) h w = absurd w
-answer_once S (Open k a c l) (Opened u) (Opened v) h w =
+answer_once S (Seal k n b) (Sealed l) (Sealed m) h w = ap Sealed (line_same l m h.0 w.0 (h.1 ∙ sym w.1))
+answer_once S (Seal k n b) (Sealed l) (Opened v) h w = absurd w
+answer_once S (Seal k n b) (Sealed l) Corrupt h w = absurd w
+answer_once S (Seal k n b) (Opened v) y h w = absurd h
+answer_once S (Seal k n b) Corrupt y h w = absurd h
+answer_once S (Open k n l) (Sealed m) y h w = absurd h
+answer_once S (Open k n l) (Opened u) (Sealed m) h w = absurd w
+answer_once S (Open k n l) (Opened u) (Opened v) h w =
     let e : some (words_in u) ≡ some (words_in v) = sym h.1 ∙ w.1 in
     let f : words_in u ≡ words_in v = cc in
     ap Opened (words_same u v h.0 w.0 f)
-answer_once S (Open k a c l) (Opened u) Corrupt h w = let e = h.1 in let z : ◌≡◌ {A = ℕ} 0 1 = cc in let y : ⊥ = omega arith in absurd y
-answer_once S (Open k a c l) Corrupt (Sealed m) h w = absurd w
-answer_once S (Open k a c l) Corrupt (Opened v) h w = let e = w.1 in let z : ◌≡◌ {A = ℕ} 0 1 = cc in let y : ⊥ = omega arith in absurd y
-answer_once S (Open k a c l) Corrupt Corrupt h w = refl
+answer_once S (Open k n l) (Opened u) Corrupt h w = let e = h.1 in let z : ◌≡◌ {A = ℕ} 0 1 = cc in let y : ⊥ = omega arith in absurd y
+answer_once S (Open k n l) Corrupt (Sealed m) h w = absurd w
+answer_once S (Open k n l) Corrupt (Opened v) h w = let e = w.1 in let z : ◌≡◌ {A = ℕ} 0 1 = cc in let y : ⊥ = omega arith in absurd y
+answer_once S (Open k n l) Corrupt Corrupt h w = refl
 
 -- what is printed by the reading of a line, where that has one answer
 by_once : {A : Type 0} (Spells : List ℕ → A → Type 0) → Unambiguous Spells → (t : List ℕ) (r s : Option A) → Reads Spells t r → Reads Spells t s → (b out other : List ℕ) (Next : A → List ℕ → Type 0) → ((a : A) (x y : List ℕ) → Next a x → Next a y → x ≡ y) → MatchOption r (out ≡ b) (λ a. Next a out) → MatchOption s (other ≡ b) (λ a. Next a other) → out ≡ other
@@ -109,7 +110,7 @@ rows_once S n (l ∷ ls) out other h k =
     (λ i x y p q. p.3 ∙ (λ j. answer_text (answer_once S i p.0 q.0 p.2 q.2 j) ++ (10 ∷ rows_once S (n + 1) ls p.1 q.1 p.4 q.4 j)) ∙ sym q.3)
     h.2 k.2
 
-keyed_once : (s : Known) (ls : List (List ℕ)) → Single (Keyed s ls)
+keyed_once : (s : SuiteKind) (ls : List (List ℕ)) → Single (Keyed s ls)
 keyed_once s [] out other h k = h ∙ sym k
 keyed_once s (l ∷ ls) out other h k =
     by_once KeyLine key_once l h.0 k.0 h.1 k.1 (bad 2) out other (λ p o. Rows (scheme_of s p) 3 ls o) (λ p. rows_once (scheme_of s p) 3 ls) h.2 k.2

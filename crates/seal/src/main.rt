@@ -12,6 +12,7 @@ mod types;
 use running::transcript;
 use std::io::Read;
 
+// `bench` has the same `main` and `transcript`: only a library that allocates could hold them, and no library here does.
 fn main(rt: HostRuntime) -> anyhow::Result<()> {
     let mut input = Vec::new(rt.alloc());
     rt.stdin().read_to_end(&mut input)?;

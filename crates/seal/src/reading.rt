@@ -1,12 +1,13 @@
 ghost use Rattle.std.specs.Prelude.{◌≡◌, [], take, drop, slice_index};
 ghost use Rattle.std.specs.Option.{option_map};
 ghost use Rattle.text.specs.Spelling.{Reads};
-ghost use Rattle.seal.specs.Items.{Head, ItemLine, SuiteLine, KeyLine};
+ghost use Rattle.seal.specs.Items.{Head, nonce_of, ItemLine, SuiteLine};
 
-use crate::types::{Item, Kind, Known};
+use crate::types::{Item, Kind};
 use board::types::Line;
-use text::types::KeyPair;
-use text::{after, first, keys, number, numbers};
+use suite::kind::SuiteKind;
+use suite::nonce::Nonce;
+use text::{after, first, number_after, numbers};
 
 // The kind that the first letter names, and what follows.
 fn read_kind(text: &[u8]) -> Option<(Kind, &[u8])>
@@ -29,26 +30,24 @@ fn read_head<'a>(text: &'a [u8], word: &[u8]) -> Option<(Kind, &'a [u8])>
 
 // The item that asks for a line of these words.
 fn sealing(kind: Kind, words: &[u64; 10]) -> Item
-    ensures { result ≡ Item.Seal kind (slice_index words.now 0) (slice_index words.now 1) (take 8 (drop 2 words.now)) }
+    ensures { result ≡ Item.Seal kind (nonce_of words.now) (take 8 (drop 2 words.now)) }
 {
     let [at, counter, w0, w1, w2, w3, w4, w5, w6, w7] = *words;
     Item::Seal {
         kind,
-        at,
-        counter,
+        nonce: Nonce { at, counter },
         body: [w0, w1, w2, w3, w4, w5, w6, w7],
     }
 }
 
 // The item that asks for the body of this line.
 fn opening(kind: Kind, words: &[u64; 11]) -> Item
-    ensures { result ≡ Item.Open kind (slice_index words.now 0) (slice_index words.now 1) (record { body = take 8 (drop 2 words.now); tag = slice_index words.now 10 }) }
+    ensures { result ≡ Item.Open kind (nonce_of words.now) (record { body = take 8 (drop 2 words.now); tag = slice_index words.now 10 }) }
 {
     let [at, counter, w0, w1, w2, w3, w4, w5, w6, w7, tag] = *words;
     Item::Open {
         kind,
-        at,
-        counter,
+        nonce: Nonce { at, counter },
         line: Line {
             body: [w0, w1, w2, w3, w4, w5, w6, w7],
             tag,
@@ -70,19 +69,8 @@ pub fn read_item(text: &[u8]) -> Option<Item>
 }
 
 // A suite that the program has.
-pub fn read_suite(text: &[u8]) -> Option<Known>
+pub fn read_suite(text: &[u8]) -> Option<SuiteKind>
     ensures { Reads SuiteLine text.now result }
 {
-    match number(after(text, b"suite=")?)? {
-        1 => Some(Known::Sip),
-        2 => Some(Known::Cmac),
-        _ => None,
-    }
-}
-
-// The two keys.
-pub fn read_keys(text: &[u8]) -> Option<KeyPair>
-    ensures { Reads KeyLine text.now result }
-{
-    keys(after(text, b"key=")?)
+    SuiteKind::try_from(number_after(text, b"suite=")?).ok()
 }

@@ -1,4 +1,5 @@
 use board::types::Line;
+use suite::nonce::Nonce;
 
 // What a line holds: a body, or a node's counters.
 #[derive(Clone, Copy)]
@@ -12,14 +13,12 @@ pub enum Kind {
 pub enum Item {
     Seal {
         kind: Kind,
-        at: u64,
-        counter: u64,
+        nonce: Nonce,
         body: [u64; 8],
     },
     Open {
         kind: Kind,
-        at: u64,
-        counter: u64,
+        nonce: Nonce,
         line: Line,
     },
 }
@@ -30,11 +29,4 @@ pub enum Answer {
     Sealed(Line),
     Opened([u64; 8]),
     Corrupt,
-}
-
-// The suites that the program has.
-#[derive(Clone, Copy)]
-pub enum Known {
-    Sip,
-    Cmac,
 }

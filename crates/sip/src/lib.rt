@@ -9,7 +9,7 @@ ghost use Rattle.std.specs.Prelude.{◌≡◌, ◌/◌, length};
 ghost use Rattle.sip.specs.Sip.{absorbed, siphash24};
 
 use crate::state::SipState;
-use crate::words::{last_word, word_at};
+use crate::words::last_word;
 
 // A key of SipHash.
 #[derive(Clone, Copy)]
@@ -28,9 +28,10 @@ impl SipKey {
     fn absorb(&self, message: &[u8]) -> SipState
         ensures { result ≡ absorbed self.now.bytes message.now (length message.now / 8) }
     {
+        let (words, _) = message.as_chunks::<8>();
         let mut state = SipState::start(&self.bytes);
-        for i in 0..message.len() / 8 {
-            state = state.compress(word_at(message, 8 * i));
+        for word in words {
+            state = state.compress(u64::from_le_bytes(*word));
         }
         state
     }

@@ -1,51 +1,37 @@
 // The steps of SipHash on its state.
 ghost use Rattle.std.specs.Prelude.{◌≡◌};
-ghost use Rattle.sip.specs.Sip.{first_half, second_half, sip_round, compress, start, finish};
+ghost use Rattle.sip.specs.Sip.{sip_round, compress, start, finish};
 
 use crate::state::SipState;
-use crate::words::word_at;
 
 impl SipState {
-    // v0 takes v1, and v2 takes v3.
-    fn first_half(self) -> SipState
-        ensures { result ≡ first_half self }
-    {
-        let v0 = self.v0.wrapping_add(self.v1);
-        let v2 = self.v2.wrapping_add(self.v3);
-        SipState {
-            v0: v0.rotate_left(32),
-            v1: self.v1.rotate_left(13) ^ v0,
-            v2,
-            v3: self.v3.rotate_left(16) ^ v2,
-        }
-    }
-
-    // v0 takes v3, and v2 takes v1.
-    fn second_half(self) -> SipState
-        ensures { result ≡ second_half self }
-    {
-        let v0 = self.v0.wrapping_add(self.v3);
-        let v2 = self.v2.wrapping_add(self.v1);
-        SipState {
-            v0,
-            v1: self.v1.rotate_left(17) ^ v2,
-            v2: v2.rotate_left(32),
-            v3: self.v3.rotate_left(21) ^ v0,
-        }
-    }
-
+    #[tactic(auto, unfolding(crate::specs::Sip::sip_round))]
     fn round(self) -> SipState
         ensures { result ≡ sip_round self }
     {
-        self.first_half().second_half()
+        let v0 = self.v0.wrapping_add(self.v1);
+        let v2 = self.v2.wrapping_add(self.v3);
+        let v1 = self.v1.rotate_left(13) ^ v0;
+        let v3 = self.v3.rotate_left(16) ^ v2;
+        let v0 = v0.rotate_left(32).wrapping_add(v3);
+        let v2 = v2.wrapping_add(v1);
+        let v1 = v1.rotate_left(17) ^ v2;
+        let v3 = v3.rotate_left(21) ^ v0;
+        SipState {
+            v0,
+            v1,
+            v2: v2.rotate_left(32),
+            v3,
+        }
     }
 
     // The state before the first word.
     pub(crate) fn start(key: &[u8; 16]) -> SipState
         ensures { result ≡ start key.now }
     {
-        let k0 = word_at(key, 0);
-        let k1 = word_at(key, 8);
+        let (words, _) = key.as_chunks::<8>();
+        let k0 = u64::from_le_bytes(words[0]);
+        let k1 = u64::from_le_bytes(words[1]);
         SipState {
             v0: k0 ^ 0x736f_6d65_7073_6575,
             v1: k1 ^ 0x646f_7261_6e64_6f6d,
@@ -55,6 +41,7 @@ impl SipState {
     }
 
     // The state after one more word.
+    #[tactic(auto, unfolding(crate::specs::Sip::compress))]
     pub(crate) fn compress(self, word: u64) -> SipState
         ensures { result ≡ compress self word }
     {
@@ -70,6 +57,7 @@ impl SipState {
     }
 
     // The hash, after the last word.
+    #[tactic(auto, unfolding(crate::specs::Sip::finish))]
     pub(crate) fn finish(self) -> u64
         ensures { result ≡ finish self }
     {

@@ -1,9 +1,6 @@
 -- Words as bytes.
-use Rattle.std.proofs.Common.{◌≡◌, ℕ, ◌+◌, ◌*◌, ◌/◌, ◌%◌, ◌<◌, ◌≤◌, List, [], ◌∷◌, ◌++◌, length, get_or, take, sym, refl, ap, ◌∙◌, arith}
+use Rattle.std.proofs.Common.{◌≡◌, ℕ, ◌/◌, ◌%◌, ◌<◌, suc, List, [], ◌∷◌, ◌++◌, length, get_or, refl, ap, ◌∙◌, arith}
 use native.Mathlib.Nat.{div-div-eq-div-mul}
-use borrow.Rule.Slice.PartMut.{put_mid}
-use Rattle.std.proofs.lemmas.List.{take_more, take_all, flat_map_more}
-use Rattle.std.proofs.lemmas.Slice.{take-put_mid}
 use Rattle.std.specs.List.{flat_map}
 use Rattle.suite.specs.Message.{bytes, word_bytes, pad_block}
 
@@ -15,24 +12,15 @@ pub bytes_eight : (xs : List ℕ) (n : ℕ) → Le8 xs n → xs ≡ bytes 8 n
 unfolding bytes
 bytes_eight xs n e = e ∙ simp div-div-eq-div-mul
 
-pub no_words : word_bytes [] ≡ []
+-- Words taken to their bytes one by one, all bytes in a row.
+pub words_flat : (ws : List ℕ) (bs : List (List ℕ)) → length bs ≡ length ws → ((k : ℕ) → k < length ws → get_or bs k [] ≡ bytes 8 (get_or ws k 0)) → flat_map (λ b. b) bs ≡ word_bytes ws
 unfolding word_bytes
-no_words = refl
-
--- One word more, copied to its place.
-pub words_more : (ws bs ys : List ℕ) (i k : ℕ) → i < length ws → 8 * i + 8 ≤ length bs → ys ≡ bytes 8 (get_or ws i 0) → length ys ≡ 8 → take (8 * i) bs ≡ word_bytes (take i ws) → take (8 * (i + 1)) (put_mid (8 * i) k bs ys) ≡ word_bytes (take (i + 1) ws)
-unfolding word_bytes
-words_more ws bs ys i k h b e n t =
-    take-put_mid (8 * i) k bs ys (8 * (i + 1)) (omega arith) (omega arith)
-    ∙ ap (λ x. x ++ ys) t
-    ∙ ap (λ x. flat_map (bytes 8) (take i ws) ++ x) e
-    ∙ flat_map_more (bytes 8) [] (take i ws) (get_or ws i 0)
-    ∙ ap (flat_map (bytes 8)) (sym (take_more ws i 0 h))
-
--- All words copied.
-pub words_all : (ws bs : List ℕ) → length ws ≡ 10 → length bs ≡ 80 → (i : ℕ) → i ≡ 10 → take (8 * i) bs ≡ word_bytes (take i ws) → bs ≡ word_bytes ws
-words_all ws bs n b i e t =
-    sym (take_all (8 * i) bs (omega arith)) ∙ t ∙ ap word_bytes (take_all i ws (omega arith))
+words_flat [] [] n h = refl
+words_flat [] (b ∷ bs) n h = grind arith
+words_flat (w ∷ ws) [] n h = grind arith
+words_flat (w ∷ ws) (b ∷ bs) n h =
+    let rest = words_flat ws bs (omega (arith, n)) (λ k lt. h (suc k) (omega arith)) in
+    ap (λ x. x ++ flat_map (λ b. b) bs) (h 0 (omega arith)) ∙ ap (λ x. bytes 8 w ++ x) rest
 
 abbrev eight : List ℕ → List ℕ
 eight xs = get_or xs 0 0 ∷ get_or xs 1 0 ∷ get_or xs 2 0 ∷ get_or xs 3 0 ∷ get_or xs 4 0 ∷ get_or xs 5 0 ∷ get_or xs 6 0 ∷ get_or xs 7 0 ∷ []

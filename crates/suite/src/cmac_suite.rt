@@ -3,6 +3,7 @@ ghost use Rattle.suite.specs.Suites.{cmac_scheme};
 ghost use Rattle.std.proofs.Common.{rules};
 
 use crate::message::{message, word_of};
+use crate::nonce::Nonce;
 use crate::suite::Suite;
 use cmac::CmacKey;
 
@@ -25,7 +26,11 @@ impl CmacSuite {
 impl Suite for CmacSuite {
     const NUMBER: u64 = 2;
 
+    ghost NUMBER = { 2 };
+
     ghost scheme = { λ s. cmac_scheme s.cmac.aes.key };
+
+    ghost named = { Prim.search rules };
 
     ghost low = { Prim.search rules };
 
@@ -33,15 +38,11 @@ impl Suite for CmacSuite {
 
     ghost small = { Prim.search rules };
 
-    fn number_of() -> u64 {
-        Self::NUMBER
+    fn mac(&self, nonce: Nonce, words: &[u64; 8]) -> u64 {
+        word_of(&self.cmac.tag(message(nonce, words).as_flattened()), 0) % 0x40_0000_0000_0000
     }
 
-    fn mac(&self, at: u64, words: &[u64; 8], counter: u64) -> u64 {
-        word_of(&self.cmac.tag(&message(at, words, counter)), 0) % 0x40_0000_0000_0000
-    }
-
-    fn pad(&self, _at: u64, _counter: u64) -> [u64; 8] {
+    fn pad(&self, _nonce: Nonce) -> [u64; 8] {
         [0; 8]
     }
 }

@@ -1,11 +1,13 @@
-ghost use Rattle.std.specs.Prelude.{◌≡◌};
-ghost use Rattle.suite.specs.Suites.{sip_scheme};
+ghost use Rattle.std.specs.Prelude.{◌≡◌, ◌<◌};
+ghost use Rattle.suite.specs.Suites.{sip_scheme, pad_part};
 ghost use Rattle.std.proofs.Common.{rules};
 
 use crate::message::{message, pad_block, word_of};
+use crate::nonce::Nonce;
 use crate::suite::Suite;
 use aes::Aes128;
 use sip::SipKey;
+use std::array;
 
 // Suite 1: SipHash-2-4 macs, AES-128 pads.
 #[derive(Clone, Copy)]
@@ -24,12 +26,24 @@ impl SipSuite {
             cipher: Aes128::new(pad_key),
         }
     }
+
+    // The two words that a part of a pad gives.
+    fn pad_words(&self, nonce: Nonce, part: u8) -> [u64; 2]
+        ensures { result ≡ pad_part self.now.cipher.key nonce.at nonce.counter part }
+    {
+        let block = self.cipher.encrypt(&pad_block(nonce, part));
+        [word_of(&block, 0), word_of(&block, 8)]
+    }
 }
 
 impl Suite for SipSuite {
     const NUMBER: u64 = 1;
 
+    ghost NUMBER = { 1 };
+
     ghost scheme = { λ s. sip_scheme s.hash.bytes s.cipher.key };
+
+    ghost named = { Prim.search rules };
 
     ghost low = { Prim.search rules };
 
@@ -37,22 +51,18 @@ impl Suite for SipSuite {
 
     ghost small = { Prim.search rules };
 
-    fn number_of() -> u64 {
-        Self::NUMBER
+    fn mac(&self, nonce: Nonce, words: &[u64; 8]) -> u64 {
+        self.hash.hash(message(nonce, words).as_flattened()) % 0x40_0000_0000_0000
     }
 
-    fn mac(&self, at: u64, words: &[u64; 8], counter: u64) -> u64 {
-        self.hash.hash(&message(at, words, counter)) % 0x40_0000_0000_0000
-    }
-
-    fn pad(&self, at: u64, counter: u64) -> [u64; 8] {
-        let mut pad = [0; 8];
-        for j in 0..4u8 {
-            let block = self.cipher.encrypt(&pad_block(at, counter, j));
-            let i = 2 * j as usize;
-            pad[i] = word_of(&block, 0);
-            pad[i + 1] = word_of(&block, 8);
-        }
-        pad
+    fn pad(&self, nonce: Nonce) -> [u64; 8] {
+        let parts: [[u64; 2]; 4] = array::from_fn(
+            |part| -> [u64; 2]
+                requires { part < 4 }
+                ensures { result ≡ pad_part self.entry.now.cipher.key nonce.at nonce.counter part }
+            { self.pad_words(nonce, part as u8) },
+        );
+        let [[w0, w1], [w2, w3], [w4, w5], [w6, w7]] = parts;
+        [w0, w1, w2, w3, w4, w5, w6, w7]
     }
 }

@@ -1,20 +1,9 @@
 -- Texts cut at a byte.
-use Rattle.std.proofs.Common.{◌≡◌, ℕ, suc, ◌+◌, ◌<◌, ◌≤◌, false, eqb, ◌⊎◌, List, [], ◌∷◌, ◌++◌, length, get_or, take, drop, Some, sym, refl, ap, ◌∙◌, subst, inl, inr, append_assoc, append-nil, arith, rules}
-use Rattle.std.proofs.lemmas.List.{drop_more, drop_all, take-append-drop, get_or-take, length-take-le, length_push, length-drop, drop_at}
-use Rattle.text.specs.Spelling.{Digit, Decimal, before_lines, lines_of, FirstLine}
+use Rattle.std.proofs.Common.{◌≡◌, ℕ, suc, ◌+◌, ◌<◌, ◌≤◌, Bool, true, false, eqb, cond, List, [], ◌∷◌, ◌++◌, length, drop, Some, None, Option, Bor, sym, refl, ap, ◌∙◌, subst, inl, inr, append_assoc, append-nil, arith, rules}
+use Rattle.std.proofs.lemmas.List.{drop_all, length_push, length-drop, drop_at}
+use Rattle.std.specs.Option.{option_map, unwrap_or}
+use Rattle.text.specs.Spelling.{Reads, Behind, Digit, Decimal, before_lines, lines_of, FirstLine}
 use Rattle.text.specs.Taking.{Stops, Lacks, Cut}
-
--- what lies from the first such byte on
-stops_at : (b : ℕ) (t : List ℕ) (n : ℕ) → (n < length t → get_or t n 0 ≡ b) → (n < length t) ⊎ (length t ≤ n) → Stops b (drop n t)
-stops_at b t n found (inl h) = inr (drop (n + 1) t, drop_more t n 0 h ∙ ap (λ c. c ∷ drop (n + 1) t) (found h))
-stops_at b t n found (inr h) = inl (drop_all n t h)
-
-pub cut_at : (b : ℕ) (t : List ℕ) (n : ℕ) → n ≤ length t → ((k : ℕ) → k < n → get_or t k 0 ≡ b → ⊥) → (n < length t → get_or t n 0 ≡ b) → (n < length t) ⊎ (length t ≤ n) → Cut b t (take n t) (drop n t)
-cut_at b t n within before found which = record {
-  split = sym (take-append-drop n t);
-  lacks = λ i h e. let k : i < n = omega (arith, length-take-le n t within) in before i k (sym (get_or-take n t i 0 k) ∙ e);
-  stops = stops_at b t n found which;
-}
 
 -- a text that lacks b does not begin with it
 no_head : (b c : ℕ) (cs : List ℕ) → Lacks b (c ∷ cs) → c ≡ b → ⊥
@@ -72,7 +61,29 @@ line_whole t (c ∷ l) r e f n w =
     let g : t ≡ c ∷ l = e ∙ ap (λ u. (c ∷ l) ++ u) f ∙ append-nil (c ∷ l) in
     (ap lines_of g ∙ line_last c l w ∙ ap (λ u. (c ∷ l) ∷ lines_of u) (sym f), f ∙ sym (drop_all (length (c ∷ l) + 1) t (omega (arith, ap length g))))
 
+-- the line up to the cut, and what is behind its line feed if it has one
+pub line_up_to : (t l : List ℕ) (r : Bor (List ℕ)) (o : Option (Bor (List ℕ))) → Cut 10 t l r.now → (t ≡ [] → ⊥) → Reads (Behind (10 ∷ [])) r.now (option_map (λ x. x.now) o) → FirstLine t (Some (l, (unwrap_or o r).now))
+line_up_to t l r (Some b) c some h = line_cut t l r.now 10 b.now c h
+line_up_to t l r None c some h = line_whole t l r.now c.split (nothing c.stops) some c.lacks
+  where
+    nothing : Stops 10 r.now → r.now ≡ []
+    nothing (inl e) = e
+    nothing (inr (u, e)) = absurd (h u e)
+
 -- what is behind a line is shorter
 pub line_shorter : (t l b : List ℕ) → FirstLine t (Some (l, b)) → length b < length t
 line_shorter [] l b h = let e = h.0 in let z : ◌≡◌ {A = ℕ} 0 1 = cc in omega arith
 line_shorter (c ∷ t) l b h = omega (arith, ap length h.1, length-drop (length l + 1) (c ∷ t))
+
+-- a text has no more lines than bytes
+before_lines_within : (c : ℕ) (ls : List (List ℕ)) → length (before_lines c ls) ≤ length ls + 1
+before_lines_within c [] = omega arith
+before_lines_within c (l ∷ ls) = omega arith
+
+line_within : (feed : Bool) (c : ℕ) (ls : List (List ℕ)) → length (cond feed ([] ∷ ls) (before_lines c ls)) ≤ length ls + 1
+line_within true c ls = omega arith
+line_within false c ls = before_lines_within c ls
+
+pub lines_within : (t : List ℕ) → length (lines_of t) ≤ length t
+lines_within [] = omega arith
+lines_within (c ∷ cs) = omega (arith, lines_within cs, line_within (eqb c 10) c (lines_of cs))

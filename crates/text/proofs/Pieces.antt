@@ -1,17 +1,14 @@
 -- Pieces read one after another, each by a step that can go one way only.
-use Rattle.std.proofs.Common.{◌≡◌, ℕ, ◌<◌, ◌≤◌, List, [], ◌∷◌, ◌++◌, length, sym, refl, ap, ◌∙◌, subst, append_assoc, append-nil, arith, length-append}
+use Rattle.std.specs.Option.{option_map}
+use Rattle.std.proofs.Common.{Bor, None, ◌≡◌, ℕ, ◌<◌, ◌≤◌, List, [], ◌∷◌, ◌++◌, length, Some, Option, sym, refl, ap, ◌∙◌, subst, append_assoc, append-nil, arith, length-append}
 use Rattle.text.specs.Spelling.{Each}
-use Rattle.text.specs.Taking.{Front}
+use Rattle.text.specs.Taking.{Front, InTurn, Takes, Fills, steps_of}
 
 module _ {A : Type 0} (Spells : List ℕ → A → Type 0) (Follows : List ℕ → Type 0) where
   -- a text's steps: the values taken, and what is left
   abbrev pub Taken : List ℕ → List A → List ℕ → Type 0
   Taken t [] rest = t ≡ rest
   Taken t (a ∷ more) rest = (u : List ℕ) × Front Spells Follows t a u × Taken u more rest
-
-  pub taken_more : (t : List ℕ) (ys : List A) (u : List ℕ) (a : A) (v : List ℕ) → Taken t ys u → Front Spells Follows u a v → Taken t (ys ++ (a ∷ [])) v
-  taken_more t [] u a v k f = (v, subst (λ (x : List ℕ). Front Spells Follows x a v) (sym k) f, refl)
-  taken_more t (y ∷ ys) u a v k f = (k.0, k.1, taken_more k.0 ys u a v k.2 f)
 
   pub taken_each : (t : List ℕ) (ys : List A) (u : List ℕ) → Taken t ys u → (p : List ℕ) × (t ≡ p ++ u) × Each Spells p ys
   taken_each t [] u k = ([], k, refl)
@@ -62,3 +59,21 @@ module _ {A : Type 0} (Spells : List ℕ → A → Type 0) (Follows : List ℕ �
     taken_same t ys u zs v j k h =
         let q = taken_on t ys u zs v j k (omega arith) in
         nothing_left ys u zs q.0 v q.1 h q.2
+
+module _ {A : Type 0} (Steps : List ℕ → Option (A × List ℕ) → Type 0) where
+  -- one step more
+  pub in_turn_more : (t : List ℕ) (ys : List A) (u : List ℕ) (a : A) (v : List ℕ) → InTurn Steps t ys u → Steps u (Some (a, v)) → InTurn Steps t (ys ++ (a ∷ [])) v
+  in_turn_more t [] u a v k s = (v, subst (λ (x : List ℕ). Steps x (Some (a, v))) (sym k) s, refl)
+  in_turn_more t (y ∷ ys) u a v k s = (k.0, k.1, in_turn_more k.0 ys u a v k.2 s)
+
+-- a reader that takes a value as some text spells it, at all places or at too few
+module _ {A : Type 0} (Answers : List ℕ → Option (A × Bor (List ℕ)) → Type 0) (Spells : List ℕ → A → Type 0) (Follows : List ℕ → Type 0) (takes : (t : List ℕ) (r : Option (A × Bor (List ℕ))) → Answers t r → Takes Spells Follows t (option_map (λ p. (p.0, p.1.now)) r)) where
+  step_takes : (t : List ℕ) (o : Option (A × List ℕ)) → steps_of Answers t o → Takes Spells Follows t o
+  step_takes t o s = subst (Takes Spells Follows t) s.2 (takes t s.0 s.1)
+
+  pub filled : (t : List ℕ) (ys : List A) (u : List ℕ) → InTurn (steps_of Answers) t ys u → Taken Spells Follows t ys u
+  filled t [] u k = k
+  filled t (y ∷ ys) u k = (k.0, step_takes t (Some (y, k.0)) k.1, filled k.0 ys u k.2)
+
+  pub unfilled : (t : List ℕ) (ys : List A) → Fills (steps_of Answers) t ys None → (done : List A) × (u : List ℕ) × (length done < length ys) × Taken Spells Follows t done u × ((a : A) (rest : List ℕ) → Front Spells Follows u a rest → ⊥)
+  unfilled t ys k = (k.0, k.1, k.2, filled t k.0 k.1 k.3, step_takes k.1 None k.4)

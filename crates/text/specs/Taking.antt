@@ -1,4 +1,6 @@
 -- What one step of a reader takes from the front of a text.
+use Rattle.std.specs.Option.{option_map}
+use Rattle.std.specs.Borrow.{Bor}
 use Rattle.std.specs.Prelude.{◌≡◌, ℕ, ◌<◌, ◌⊎◌, List, [], ◌∷◌, ◌++◌, length, Some, None, Option, ◌≢◌, slice_index}
 
 -- A text whose front spells a value and whose rest may follow such a front.
@@ -30,3 +32,17 @@ pub record Cut (b : ℕ) (t front rest : List ℕ) : Type 0 where
   pub split : t ≡ front ++ rest
   pub lacks : Lacks b front
   pub stops : Stops b rest
+
+-- What the calls of a reader answer at a text, said of the texts behind its references.
+abbrev pub steps_of : {A : Type 0} → (List ℕ → Option (A × Bor (List ℕ)) → Type 0) → List ℕ → Option (A × List ℕ) → Type 0
+steps_of {A} Answers t o = (r : Option (A × Bor (List ℕ))) × Answers t r × (option_map (λ p. (p.0, p.1.now)) r ≡ o)
+
+-- The values of steps one after another, and what they leave.
+abbrev pub InTurn : {A : Type 0} → (List ℕ → Option (A × List ℕ) → Type 0) → List ℕ → List A → List ℕ → Type 0
+InTurn Steps t [] rest = t ≡ rest
+InTurn Steps t (a ∷ more) rest = (u : List ℕ) × Steps t (Some (a, u)) × InTurn Steps u more rest
+
+-- A step gave each of these values, and this is left; or fewer steps gave values, and the next gave none.
+abbrev pub Fills : {A : Type 0} → (List ℕ → Option (A × List ℕ) → Type 0) → List ℕ → List A → Option (List ℕ) → Type 0
+Fills Steps t values (Some rest) = InTurn Steps t values rest
+Fills {A} Steps t values None = (done : List A) × (u : List ℕ) × (length done < length values) × InTurn Steps t done u × Steps u None

@@ -1,11 +1,13 @@
 // Reading the inputs of the programs: numbers, keys, prefixes and lines. A text is a slice of bytes.
 #![tactic(auto)]
 
-ghost use Rattle.std.specs.Prelude.{◌≡◌, ℕ, ◌^◌, ◌<◌, ◌≤◌, List, [], ◌∷◌, ◌++◌, length, MatchOption, ◌≢◌, slice_index};
+ghost use Rattle.std.specs.Prelude.{◌≡◌, ℕ, ◌^◌, ◌<◌, ◌≤◌, List, [], ◌∷◌, ◌++◌, length, MatchOption, codes, ◌≢◌, slice_index};
 ghost use Rattle.std.specs.Option.{option_map};
-ghost use Rattle.text.specs.Spelling.{Reads, Behind, Begins, Digit, then_digit, Decimal, Spaced, Numbers, Hex, HexByte, Key, Keys, FirstLine};
-ghost use Rattle.text.specs.Taking.{Stops, Any, Cut, Takes};
+ghost use Rattle.std.specs.Fn.{FnReturnsAt};
+ghost use Rattle.text.specs.Spelling.{Reads, Behind, Begins, After, Digit, then_digit, Decimal, Spaced, Numbers, Hex, HexByte, Key, Keys, FirstLine};
+ghost use Rattle.text.specs.Taking.{Stops, Any, Cut, Takes, steps_of, Fills};
 
+pub mod lines;
 pub mod types;
 pub mod words;
 
@@ -15,22 +17,15 @@ use types::KeyPair;
 fn push_digit(value: u64, byte: u8) -> Option<u64>
     ensures { MatchOption result (Digit byte → then_digit value byte < 2 ^ 64 → ⊥) (λ n. Digit byte × (n ≡ then_digit value byte)) }
 {
-    match byte {
-        b'0'..=b'9' => value.checked_mul(10)?.checked_add(u64::from(byte - b'0')),
-        _ => None,
-    }
+    let digit = char::from(byte).to_digit(10)?;
+    value.checked_mul(10)?.checked_add(u64::from(digit))
 }
 
 // The value of a hexadecimal digit.
 fn hex(byte: u8) -> Option<u8>
     ensures { MatchOption result ((v : ℕ) → Hex byte v → ⊥) (λ v. Hex byte v) }
 {
-    match byte {
-        b'0'..=b'9' => Some(byte - b'0'),
-        b'a'..=b'f' => Some(byte - b'a' + 10),
-        b'A'..=b'F' => Some(byte - b'A' + 10),
-        _ => None,
-    }
+    u8::try_from(char::from(byte).to_digit(16)?).ok()
 }
 
 // The place of the first such byte, or the length where there is none.
@@ -39,12 +34,7 @@ fn find(text: &[u8], byte: u8) -> usize
     ensures before { (k : ℕ) → k < result → slice_index text.now k ≢ byte }
     ensures found { result < length text.now → slice_index text.now result ≡ byte }
 {
-    for (i, x) in text.iter().enumerate() {
-        if *x == byte {
-            return i;
-        }
-    }
-    text.len()
+    text.iter().position(|x| *x == byte).unwrap_or(text.len())
 }
 
 // A decimal number.
@@ -68,6 +58,13 @@ pub fn after<'a>(text: &'a [u8], prefix: &[u8]) -> Option<&'a [u8]>
     text.strip_prefix(prefix)
 }
 
+// A prefix and a number.
+pub fn number_after(text: &[u8], prefix: &[u8]) -> Option<u64>
+    ensures { Reads (After prefix.now Decimal) text.now result }
+{
+    number(after(text, prefix)?)
+}
+
 // The first byte as a character, and what follows it.
 pub fn first(text: &[u8]) -> Option<(char, &[u8])>
     ensures { Reads Begins text.now (option_map (λ p. (p.0, p.1.now)) result) }
@@ -83,6 +80,22 @@ fn cut(text: &[u8], byte: u8) -> (&[u8], &[u8])
     text.split_at(find(text, byte))
 }
 
+// Reads a value into each place from the front of a text, and gives what follows the last.
+fn fill<'a, T: Copy, F: Fn(&[u8]) -> Option<(T, &[u8])>>(
+    values: &mut [T],
+    text: &'a [u8],
+    next: F,
+) -> Option<&'a [u8]>
+    requires { F.IsAlwaysCallable next }
+    ensures { Fills (steps_of (FnReturnsAt F.Fn next)) text.now values.new (option_map (λ x. x.now) result) }
+{
+    let mut rest = text;
+    for value in values {
+        (*value, rest) = next(rest)?;
+    }
+    Some(rest)
+}
+
 // One space and a number, with what follows from the next space on.
 fn next_number(text: &[u8]) -> Option<(u64, &[u8])>
     ensures { Takes Spaced (Stops 32) text.now (option_map (λ p. (p.0, p.1.now)) result) }
@@ -96,13 +109,8 @@ pub fn numbers<const N: usize>(text: &[u8]) -> Option<[u64; N]>
     ensures { Reads (Numbers N) text.now result }
 {
     let mut values = [0u64; N];
-    let mut rest = text;
-    for i in 0..N {
-        let (value, behind) = next_number(rest)?;
-        values[i] = value;
-        rest = behind;
-    }
-    if rest.is_empty() { Some(values) } else { None }
+    let rest = fill(&mut values, text, next_number)?;
+    rest.is_empty().then_some(values)
 }
 
 // A byte as two hexadecimal digits, with what follows.
@@ -120,12 +128,7 @@ fn next_key(text: &[u8]) -> Option<([u8; 16], &[u8])>
     ensures { Takes Key Any text.now (option_map (λ p. (p.0, p.1.now)) result) }
 {
     let mut key = [0u8; 16];
-    let mut rest = text;
-    for i in 0..16 {
-        let (byte, behind) = next_byte(rest)?;
-        key[i] = byte;
-        rest = behind;
-    }
+    let rest = fill(&mut key, text, next_byte)?;
     Some((key, rest))
 }
 
@@ -135,11 +138,14 @@ pub fn keys(text: &[u8]) -> Option<KeyPair>
 {
     let (mac, rest) = next_key(text)?;
     let (pad, rest) = next_key(rest)?;
-    if rest.is_empty() {
-        Some(KeyPair { mac, pad })
-    } else {
-        None
-    }
+    rest.is_empty().then_some(KeyPair { mac, pad })
+}
+
+// The key word of the two keys, and the keys.
+pub fn key_line(line: &[u8]) -> Option<KeyPair>
+    ensures { Reads (After (codes "key=") Keys) line.now result }
+{
+    keys(after(line, b"key=")?)
 }
 
 // The first line and the text behind it, or none at the end of the text.
@@ -150,8 +156,5 @@ pub fn next_line(text: &[u8]) -> Option<(&[u8], &[u8])>
         return None;
     }
     let (line, rest) = cut(text, b'\n');
-    match rest.split_first() {
-        Some((_, behind)) => Some((line, behind)),
-        None => Some((line, rest)),
-    }
+    Some((line, after(rest, b"\n").unwrap_or(rest)))
 }

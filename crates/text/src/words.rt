@@ -3,21 +3,6 @@ ghost use Rattle.text.specs.Writing.{row};
 
 use std::fmt;
 
-// A word that is printed in decimal after one space.
-#[derive(Clone, Copy)]
-struct Spaced {
-    word: u64,
-}
-
-impl fmt::Display for Spaced {
-    ghost output = { λ s. Some (32 ∷ decimal s.word) };
-
-    fn fmt<W: fmt::Write>(&self, f: &mut fmt::Formatter<W>) -> fmt::Result {
-        let word = self.word;
-        write!(f, " {word}")
-    }
-}
-
 // Words that are printed in decimal, one space between them.
 #[derive(Clone, Copy)]
 pub struct Words<'a> {
@@ -33,8 +18,7 @@ impl fmt::Display for Words<'_> {
         };
         write!(f, "{first}")?;
         for word in rest {
-            let next = Spaced { word: *word };
-            write!(f, "{next}")?;
+            write!(f, " {word}")?;
         }
         Ok(())
     }

@@ -2,7 +2,6 @@ pub mod Rows
 pub mod InOrder
 pub mod Sums
 pub mod Lowest
-pub mod Limits
 pub mod Fits
 pub mod Bits
 pub mod MapBits

@@ -1,14 +1,12 @@
 -- Slots in a row, as a table by address.
-use Rattle.std.proofs.Common.{◌≡◌, ℕ, zero, suc, ◌+◌, ◌<◌, ◌≤◌, cond, eqb, ◌⊎◌, List, [], ◌∷◌, length, get_or, take, set, sym, refl, ap, ◌∙◌, inl, inr, arith}
+use Rattle.std.proofs.Common.{◌≡◌, ℕ, zero, suc, ◌<◌, ◌≤◌, cond, eqb, List, [], ◌∷◌, length, get_or, take, set, sym, refl, ap, ◌∙◌, arith}
 use mathlib.Core.Path.{fun_ext}
 use mathlib.Core.Option.{some, none}
-use Rattle.std.proofs.lemmas.Bool.{eq-eqb, ne_eqb, cases_eq}
+use Rattle.std.proofs.lemmas.Bool.Decides.{nat_tests}
+use Rattle.std.proofs.lemmas.Bool.{eq-eqb, ne_eqb}
 use Rattle.tree.specs.declared.types.Slot.{Slot}
-use Rattle.std.proofs.lemmas.List.{get_or-set_same, get_or-set_other}
 use Rattle.machine.specs.Layout.{update}
 use Rattle.machine.specs.Plans.{Slot as DirtyNode, raised}
-use Rattle.machine.proofs.Basics.{none≢some}
-use Rattle.suite.specs.Words.{row}
 use Rattle.tree.specs.Tables.{slot_in, no_slot, row_of, rows_in}
 use Rattle.tree.specs.SlotTable.{slot_or}
 
@@ -31,47 +29,15 @@ pub table_set : (ss : List Slot) (used at i : ℕ) (s : Slot) → i < used → u
 unfolding rows_in
 table_set [] used at i s h n e f g q = absurd (omega arith)
 table_set (x ∷ ss) zero at i s h n e f g q = absurd (omega arith)
-table_set (x ∷ ss) (suc used) at zero s h n e f g q = go (cases_eq q at)
-  where
-    go : (q ≡ at) ⊎ (q ≡ at → ⊥) → cond (eqb q s.address) (some (slot_in s)) (row_of (take used ss) q) ≡ cond (eqb q at) (some (slot_in s)) (cond (eqb q x.address) (some (slot_in x)) (row_of (take used ss) q))
-    go (inl d) = rw (eq-eqb q s.address (d ∙ sym g), eq-eqb q at d)
-    go (inr d) = rw (ne_eqb q s.address (λ y. d (y ∙ g)), ne_eqb q at d, ne_eqb q x.address (λ y. d (y ∙ e)))
-table_set (x ∷ ss) (suc used) at (suc i) s h n e f g q = go (table_set ss used at i s (omega arith) (omega arith) e (λ k y. f (suc k) (omega arith)) g q) (cases_eq q at) (cases_eq q x.address)
-  where
-    go : row_of (take used (set ss i s)) q ≡ cond (eqb q at) (some (slot_in s)) (row_of (take used ss) q) → (q ≡ at) ⊎ (q ≡ at → ⊥) → (q ≡ x.address) ⊎ (q ≡ x.address → ⊥) → cond (eqb q x.address) (some (slot_in x)) (row_of (take used (set ss i s)) q) ≡ cond (eqb q at) (some (slot_in s)) (cond (eqb q x.address) (some (slot_in x)) (row_of (take used ss) q))
-    go ih (inl d) (inl b) = absurd (f zero (omega arith) (sym b ∙ d))
-    go ih (inl d) (inr b) = rw (ne_eqb q x.address b) ih
-    go ih (inr d) (inl b) = rw (eq-eqb q x.address b, ne_eqb q at d)
-    go ih (inr d) (inr b) = rw (ne_eqb q x.address b) ih
+table_set (x ∷ ss) (suc used) at zero s h n e f g q = grind (arith, nat_tests)
+table_set (x ∷ ss) (suc used) at (suc i) s h n e f g q = grind (arith, nat_tests, table_set ss used at i s (omega arith) (omega arith) e (λ k y. f (suc k) (omega arith)) g q, f zero (omega arith))
 
 -- A slot more, at an address that had none.
 pub table_push : (ss : List Slot) (used at : ℕ) (s : Slot) → used < length ss → rows_in ss used at ≡ none → s.address ≡ at → (q : ℕ) → rows_in (set ss used s) (suc used) q ≡ update (rows_in ss used) at (some (slot_in s)) q
 unfolding rows_in
 table_push [] used at s n e g q = absurd (omega arith)
 table_push (x ∷ ss) zero at s n e g q = ap (λ a. cond (eqb q a) (some (slot_in s)) none) g
-table_push (x ∷ ss) (suc used) at s n e g q = go (λ y. table_push ss used at s (omega arith) y g q) (cases_eq q at) (cases_eq q x.address) (cases_eq at x.address)
-  where
-    go : (row_of (take used ss) at ≡ none → row_of (take (suc used) (set ss used s)) q ≡ cond (eqb q at) (some (slot_in s)) (row_of (take used ss) q)) → (q ≡ at) ⊎ (q ≡ at → ⊥) → (q ≡ x.address) ⊎ (q ≡ x.address → ⊥) → (at ≡ x.address) ⊎ (at ≡ x.address → ⊥) → cond (eqb q x.address) (some (slot_in x)) (row_of (take (suc used) (set ss used s)) q) ≡ cond (eqb q at) (some (slot_in s)) (cond (eqb q x.address) (some (slot_in x)) (row_of (take used ss) q))
-    go ih c b (inl d) = absurd (none≢some (sym e ∙ ap (λ z. cond z (some (slot_in x)) (row_of (take used ss) at)) (eq-eqb at x.address d)))
-    go ih (inl c) (inl b) (inr d) = absurd (d (sym c ∙ b))
-    go ih (inl c) (inr b) (inr d) = rw (ne_eqb q x.address b) (ih (sym (ap (λ z. cond z (some (slot_in x)) (row_of (take used ss) at)) (ne_eqb at x.address d)) ∙ e))
-    go ih (inr c) (inl b) (inr d) = rw (eq-eqb q x.address b, ne_eqb q at c)
-    go ih (inr c) (inr b) (inr d) = rw (ne_eqb q x.address b) (ih (sym (ap (λ z. cond z (some (slot_in x)) (row_of (take used ss) at)) (ne_eqb at x.address d)) ∙ e))
-
--- Words with one changed, as a function.
-pub row_set : (ws : List ℕ) (i x : ℕ) → i < length ws → row (set ws i x) ≡ update (row ws) i x
-row_set ws i x h = fun_ext (λ k. go k (cases_eq k i))
-  where
-    go : (k : ℕ) → (k ≡ i) ⊎ (k ≡ i → ⊥) → get_or (set ws i x) k 0 ≡ cond (eqb k i) x (get_or ws k 0)
-    go k (inl e) = rw (eq-eqb k i e) (ap (λ j. get_or (set ws i x) j 0) e ∙ get_or-set_same ws i x 0 h)
-    go k (inr e) = rw (ne_eqb k i e) (get_or-set_other ws i k x 0 e)
-
--- A slot raised in place.
-pub slot_raised : (ws : List ℕ) (i c n : ℕ) → i < length ws → ◌≡◌ {A = DirtyNode} (record { counters = row (set ws i c); pending = n + 1 }) (raised (record { counters = row ws; pending = n }) i c)
-slot_raised ws i c n h = λ j. record { counters = row_set ws i c h j; pending = plus j }
-  where
-    plus : n + 1 ≡ suc n
-    plus = omega arith
+table_push (x ∷ ss) (suc used) at s n e g q = grind (arith, nat_tests, (λ (y : row_of (take used ss) at ≡ none). table_push ss used at s (omega arith) y g q))
 
 -- What raising does to the table.
 module _ (ss : List Slot) (used at index counter : ℕ) (n : used ≤ length ss) where

@@ -1,4 +1,4 @@
-pub mod Layouts
 pub mod Tables
 pub mod SlotTable
 pub mod DirtyMap
+pub mod Limits

@@ -1,12 +1,13 @@
 -- The chip's slots by node address, and what their calls do to them.
-use Rattle.std.specs.Prelude.{◌≡◌, ℕ, ◌+◌, ◌-◌, ◌^◌, ◌<◌, ◌≤◌, Bool, true, false, ◌&&◌, List, get_or, Some, None, Option as Maybe, ◌≢◌, nat_le, slice_index, slice_index_or}
+use Rattle.std.specs.Prelude.{◌≡◌, ℕ, ◌+◌, ◌-◌, ◌^◌, ◌<◌, ◌≤◌, Bool, true, false, ◌&&◌, List, Some, None, Option as Maybe, ◌≢◌, nat_le, slice_index_or}
 use Rattle.std.proofs.Math.Option.{Option, some, none}
 use Rattle.suite.specs.Scheme.{Body}
 use Rattle.suite.specs.Words.{row}
 use Rattle.machine.specs.Layout.{Shape, update, counter_limit}
 use Rattle.machine.specs.Words.{bit}
 use Rattle.machine.specs.Plans.{Table, Slot as DirtyNode, is_dirty, slot_counters, overdue, raised, lowest}
-use Rattle.tree.specs.Layouts.{shape_in}
+use Rattle.machine.specs.Layouts.{shape_in}
+use Rattle.tree.specs.Limits.{WithinLimit}
 use Rattle.tree.specs.Tables.{slot_in, no_slot, rows_in}
 use Rattle.tree.specs.declared.types.Slot.{Slot}
 use Rattle.tree.specs.declared.types.Slots.{Slots}
@@ -17,7 +18,7 @@ table_in s = rows_in s.table s.used
 
 -- Which slot is that of node a.
 abbrev pub Finds : Slots → ℕ → Maybe ℕ → Type 0
-Finds s a (Some i) = (i < s.used) × (table_in s a ≡ some (slot_in (slice_index_or s.table i no_slot))) × ((get_or s.table i no_slot).address ≡ a) × ((k : ℕ) → k < i → (get_or s.table k no_slot).address ≢ a)
+Finds s a (Some i) = (i < s.used) × (table_in s a ≡ some (slot_in (slice_index_or s.table i no_slot))) × ((slice_index_or s.table i no_slot).address ≡ a) × ((k : ℕ) → k < i → (slice_index_or s.table k no_slot).address ≢ a)
 Finds s a None = table_in s a ≡ none
 
 -- No node is dirty.
@@ -38,6 +39,13 @@ abbrev pub slot_or : Option DirtyNode → Body → DirtyNode
 slot_or (some s) f = s
 slot_or none f = record { counters = f; pending = 0 }
 
+-- A slot is free, and node a of the layout can have it with the counters f.
+pub record HasRoom (s : Slots) (a : ℕ) (f : Body) : Type 0 where
+  pub room : s.used < 64
+  pub node : (shape_in s.layout).data_lines ≤ a
+  pub range : a < (shape_in s.layout).lines
+  pub within : WithinLimit f
+
 -- Counter i of node a can be raised to c: a is a node of the layout and not overdue, and c is within the limit; unless a is dirty,
 -- a slot is free and the counters f are within the limit.
 pub record FitToRaise (s : Slots) (a i c : ℕ) (f : Body) : Type 0 where
@@ -47,7 +55,7 @@ pub record FitToRaise (s : Slots) (a i c : ℕ) (f : Body) : Type 0 where
   pub within : c ≤ counter_limit
   pub in_time : overdue (table_in s a) ≡ false
   pub room : table_in s a ≡ none → s.used < 64
-  pub fresh : table_in s a ≡ none → (k : ℕ) → k < 8 → f k ≤ counter_limit
+  pub fresh : table_in s a ≡ none → WithinLimit f
 
 -- The slots after a raise: done exactly where it fits, else unchanged.
 abbrev pub Raised : Slots → ℕ → ℕ → ℕ → Body → Bool → Slots → Type 0
@@ -60,7 +68,7 @@ pub record FitToPush (s : Slots) (x : Slot) : Type 0 where
   pub node : (shape_in s.layout).data_lines ≤ x.address
   pub range : x.address < (shape_in s.layout).lines
   pub clean : table_in s x.address ≡ none
-  pub within : (k : ℕ) → k < 8 → slice_index x.counters k ≤ counter_limit
+  pub within : WithinLimit (row x.counters)
 
 -- The slots after one was added: done exactly where it fits, else unchanged.
 abbrev pub Pushed : Slots → Slot → Bool → Slots → Type 0

@@ -1,9 +1,7 @@
 -- Slots in a row, as the definitions see them.
-use Rattle.std.specs.Prelude.{ℕ, Bool, cond, List, [], ◌∷◌, take, ◌==◌, nat_le}
+use Rattle.std.specs.Prelude.{ℕ, cond, List, [], ◌∷◌, take, ◌==◌}
 use Rattle.std.proofs.Math.Option.{some, none}
-use Rattle.suite.specs.Scheme.{Body}
 use Rattle.suite.specs.Words.{row}
-use Rattle.machine.specs.Layout.{every, counter_limit}
 use Rattle.machine.specs.Plans.{Table, Slot as DirtyNode}
 use Rattle.tree.specs.declared.types.Slot.{Slot}
 
@@ -23,7 +21,3 @@ row_of (s ∷ ss) p = cond (p == s.address) (some (slot_in s)) (row_of ss p)
 -- The first n slots of a row.
 unfoldable pub rows_in : List Slot → ℕ → Table
 rows_in ss n = row_of (take n ss)
-
--- Whether no counter of a node is above the limit.
-unfoldable pub all_within : Body → Bool
-all_within f = every 8 (λ i. nat_le (f i) counter_limit)

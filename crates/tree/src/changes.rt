@@ -1,10 +1,10 @@
-ghost use Rattle.std.specs.Prelude.{◌≡◌, ℕ, ◌+◌, ◌^◌, ◌<◌, ◌≤◌, slice_index};
-ghost use Rattle.std.proofs.Math.Option.{some, none};
+ghost use Rattle.std.specs.Prelude.{◌≡◌, ◌+◌, ◌<◌, ◌↔◌, IsTrue};
+ghost use Rattle.std.proofs.Math.Option.{some};
 ghost use Rattle.suite.specs.Words.{row};
-ghost use Rattle.machine.specs.Layout.{update, lines_of, counter_limit};
+ghost use Rattle.machine.specs.Layout.{update};
 ghost use Rattle.machine.specs.Plans.{raised};
 ghost use Rattle.tree.specs.Tables.{slot_in};
-ghost use Rattle.tree.specs.SlotTable.{table_in, Raised, Pushed, Removed};
+ghost use Rattle.tree.specs.SlotTable.{table_in, HasRoom, FitToPush, Raised, Pushed, Removed};
 
 use crate::counters::{LIMIT, within_limit};
 use crate::types::{Slot, Slots};
@@ -12,8 +12,7 @@ use crate::types::{Slot, Slots};
 impl Slots {
     // A slot more, for a node that has none.
     fn append(&mut self, slot: Slot)
-        requires room { (self.old.used < 64) × (table_in self.old slot.address ≡ none) }
-        requires fits { (8 ^ self.old.layout.levels ≤ slot.address) × ((slot.address < lines_of self.old.layout.levels) × (((k : ℕ) → k < 8 → slice_index slot.counters k ≤ counter_limit))) }
+        requires { FitToPush self.old slot }
         ensures table { table_in self.new ≡ update (table_in self.old) slot.address (some (slot_in slot)) }
         ensures more { self.new.used ≡ self.old.used + 1 }
         ensures layout { self.new.layout ≡ self.old.layout }
@@ -22,24 +21,22 @@ impl Slots {
         self.used += 1;
     }
 
+    // Whether a slot is free, and a node can have it with these counters.
+    fn has_room(&self, node: usize, counters: &[u64; 8]) -> bool
+        ensures { IsTrue result ↔ HasRoom self.now node (row counters.now) }
+    {
+        !self.is_full() && self.layout.is_node(node) && within_limit(counters)
+    }
+
     // A slot more; false, and nothing changes, where it does not fit.
     pub fn push(&mut self, slot: Slot) -> bool
         ensures { Pushed self.old slot result self.new }
     {
-        if self.is_full() {
-            return false;
+        let fits = self.has_room(slot.address, &slot.counters) && !self.holds(slot.address);
+        if fits {
+            self.append(slot);
         }
-        if !self.layout.is_node(slot.address) {
-            return false;
-        }
-        if self.holds(slot.address) {
-            return false;
-        }
-        if !within_limit(&slot.counters) {
-            return false;
-        }
-        self.append(slot);
-        true
+        fits
     }
 
     // One counter of a node becomes `counter`: in its slot, or in a new one from the counters `fresh`.
@@ -47,10 +44,7 @@ impl Slots {
     pub fn raise(&mut self, at: usize, index: usize, counter: u64, fresh: &[u64; 8]) -> bool
         ensures { Raised self.old at index counter (row fresh.now) result self.new }
     {
-        if index >= 8 {
-            return false;
-        }
-        if counter > LIMIT {
+        if index >= 8 || counter > LIMIT {
             return false;
         }
         if let Some(i) = self.find(at) {
@@ -60,13 +54,7 @@ impl Slots {
             raise_slot(&mut self.table[i], index, counter);
             return true;
         }
-        if self.is_full() {
-            return false;
-        }
-        if !self.layout.is_node(at) {
-            return false;
-        }
-        if !within_limit(fresh) {
+        if !self.has_room(at, fresh) {
             return false;
         }
         let mut slot = Slot {
@@ -79,13 +67,11 @@ impl Slots {
         true
     }
 
-    // Takes the slot of a dirty node away, and gives its counters.
+    // Takes the slot of a dirty node away, and gives its counters. The last slot in use takes its place.
     pub fn remove(&mut self, at: usize) -> Option<[u64; 8]>
         ensures { Removed self.old at result self.new }
     {
-        let Some(i) = self.find(at) else {
-            return None;
-        };
+        let i = self.find(at)?;
         let counters = self.table[i].counters;
         self.used -= 1;
         self.table[i] = self.table[self.used];

@@ -1,5 +1,5 @@
 ghost use Rattle.std.specs.Prelude.{◌≡◌, ℕ, ◌<◌, ◌≤◌, take, drop, count_ones};
-ghost use Rattle.tree.specs.DirtyMap.{bits_set, TopBit, HighestBelow, with_bit};
+ghost use Rattle.tree.specs.DirtyMap.{bits_set, TopBit, TopOfWord, HighestBelow, with_bit};
 
 // The dirty map in a register's words: words 22 to 31.
 pub fn map_of(words: &[u64; 32]) -> [u64; 10]
@@ -10,23 +10,11 @@ pub fn map_of(words: &[u64; 32]) -> [u64; 10]
     map
 }
 
-// How many bits of a word are set.
-fn set_bits(word: u64) -> u32
-    ensures value { result ≡ count_ones word }
-    ensures small { result ≤ 64 }
-{
-    word.count_ones()
-}
-
 // How many nodes a dirty map names.
 pub fn dirty_nodes(map: &[u64; 10]) -> u32
     ensures { result ≡ bits_set map.now }
 {
-    let mut n = 0;
-    for w in map {
-        n += set_bits(*w);
-    }
-    n
+    map.iter().map(|word| word.count_ones()).sum()
 }
 
 // The highest set bit of a word below a bound of at most 64.
@@ -39,30 +27,27 @@ fn top_bit(word: u64, below: u32) -> Option<u32>
     } else {
         word
     };
-    if low == 0 {
-        return None;
-    }
-    Some(63 - low.leading_zeros())
+    (low != 0).then(|| 63 - low.leading_zeros())
+}
+
+// The highest set bit of word i of a dirty map below a bound, both counted over the whole map.
+fn top_of_word(i: usize, word: u64, below: usize) -> Option<usize>
+    requires { i < 10 }
+    ensures { TopOfWord i word below result }
+{
+    let first = 64 * i;
+    let room = below.saturating_sub(first).min(64) as u32;
+    Some(first + top_bit(word, room)? as usize)
 }
 
 // The highest dirty node below a bound, both counted from the first node.
 pub fn highest_below(map: &[u64; 10], below: usize) -> Option<usize>
     ensures { HighestBelow map.now below result }
 {
-    for i in (0..10usize).rev() {
-        let base = 64 * i;
-        if base < below {
-            let room = if below - base < 64 {
-                (below - base) as u32
-            } else {
-                64
-            };
-            if let Some(j) = top_bit(map[i], room) {
-                return Some(base + j as usize);
-            }
-        }
-    }
-    None
+    map.iter()
+        .enumerate()
+        .rev()
+        .find_map(|(i, word)| top_of_word(i, *word, below))
 }
 
 // Sets one of the 640 bits of a dirty map.

@@ -1,8 +1,8 @@
-ghost use Rattle.std.specs.Prelude.{◌≡◌, ℕ, ◌*◌, ◌<◌, ◌≤◌, nat_le, slice_index};
-ghost use Rattle.suite.specs.Words.{row};
-ghost use Rattle.machine.specs.Layout.{counter_limit, sum_to};
+ghost use Rattle.std.specs.Prelude.{◌≡◌, MatchOption, nat_le, take};
+ghost use Rattle.std.proofs.Math.Option.{some, none};
 ghost use Rattle.machine.specs.Plans.{is_dirty, overdue as overdue_in, dirty_count, sum_of};
-ghost use Rattle.tree.specs.Layouts.{shape_in};
+ghost use Rattle.machine.specs.Layouts.{shape_in};
+ghost use Rattle.tree.specs.Tables.{slot_in};
 ghost use Rattle.tree.specs.SlotTable.{table_in, no_slots, map_in, Finds, Counter, LowestIs};
 
 use crate::counters::sum_of;
@@ -10,8 +10,9 @@ use crate::dirty_map::set_bit;
 use crate::types::{Layout, Slot, Slots};
 
 impl Slots {
-    // A table of which no slot is used.
-    fn unused(layout: Layout) -> Slots
+    // No dirty nodes.
+    pub fn new(layout: Layout) -> Slots
+        ensures table { table_in result ≡ no_slots }
         ensures empty { result.used ≡ 0 }
         ensures layout { result.layout ≡ layout }
     {
@@ -27,26 +28,10 @@ impl Slots {
         }
     }
 
-    // No dirty nodes.
-    pub fn new(layout: Layout) -> Slots
-        ensures table { table_in result ≡ no_slots }
-        ensures empty { result.used ≡ 0 }
-        ensures layout { result.layout ≡ layout }
-    {
-        Slots::unused(layout)
-    }
-
     pub fn layout(&self) -> Layout
         ensures { result ≡ self.now.layout }
     {
         self.layout
-    }
-
-    // How many slots are used.
-    fn len(&self) -> usize
-        ensures { result ≡ self.now.used }
-    {
-        self.used
     }
 
     // Whether every slot is used.
@@ -61,52 +46,52 @@ impl Slots {
         ensures value { result ≡ self.now.used }
         ensures counted { result ≡ dirty_count (shape_in self.now.layout) (table_in self.now) }
     {
-        self.len()
+        self.used
+    }
+
+    // The slots in use.
+    fn slots_in_use(&self) -> &[Slot]
+        ensures { result.now ≡ take self.now.used self.now.table }
+    {
+        &self.table[..self.used]
     }
 
     // Where the slot of a node stands.
     pub(crate) fn find(&self, at: usize) -> Option<usize>
         ensures { Finds self.now at result }
     {
-        for i in 0..self.used {
-            if self.table[i].address == at {
-                return Some(i);
-            }
-        }
-        None
+        self.slots_in_use()
+            .iter()
+            .position(|slot| slot.address == at)
+    }
+
+    // The slot of a node.
+    fn slot(&self, at: usize) -> Option<&Slot>
+        ensures { MatchOption result (table_in self.now at ≡ none) (λ slot. table_in self.now at ≡ some (slot_in slot.now)) }
+    {
+        let i = self.find(at)?;
+        Some(&self.table[i])
     }
 
     // Whether a node is dirty.
     pub fn holds(&self, at: usize) -> bool
         ensures { result ≡ is_dirty (table_in self.now at) }
     {
-        match self.find(at) {
-            Some(_) => true,
-            None => false,
-        }
+        self.slot(at).is_some()
     }
 
     // Whether a node is dirty with 1,023 pending increments or more.
     pub fn overdue(&self, at: usize) -> bool
         ensures { result ≡ overdue_in (table_in self.now at) }
     {
-        match self.find(at) {
-            Some(i) => self.table[i].pending >= 1023,
-            None => false,
-        }
+        self.slot(at).is_some_and(|slot| slot.pending >= 1023)
     }
 
     // One of the eight counters of a dirty node.
     pub fn counter(&self, at: usize, index: usize) -> Option<u64>
         ensures { Counter (table_in self.now at) index result }
     {
-        if index >= 8 {
-            return None;
-        }
-        match self.find(at) {
-            Some(i) => Some(self.table[i].counters[index]),
-            None => None,
-        }
+        self.slot(at)?.counters.get(index).copied()
     }
 }
 
@@ -115,27 +100,17 @@ impl Slots {
     pub fn lowest(&self) -> Option<usize>
         ensures { LowestIs (shape_in self.now.layout) (table_in self.now) result }
     {
-        if self.used == 0 {
-            return None;
-        }
-        let mut best = 0;
-        for i in 1..self.used {
-            if self.table[i].address < self.table[best].address {
-                best = i;
-            }
-        }
-        Some(self.table[best].address)
+        self.slots_in_use().iter().map(|slot| slot.address).min()
     }
 
     // The dirty sum: all counters of all dirty nodes.
     pub fn sum(&self) -> u64
         ensures { result ≡ sum_of (shape_in self.now.layout) (table_in self.now) }
     {
-        let mut sum = 0;
-        for i in 0..self.used {
-            sum += slot_sum(&self.table[i]);
-        }
-        sum
+        self.slots_in_use()
+            .iter()
+            .map(|slot| sum_of(&slot.counters))
+            .sum()
     }
 
     // The dirty map of these slots.
@@ -144,19 +119,9 @@ impl Slots {
     {
         let base = self.layout.data_lines();
         let mut map = [0u64; 10];
-        for i in 0..self.used {
-            let j = self.table[i].address - base;
-            set_bit(&mut map, j);
+        for slot in self.slots_in_use() {
+            set_bit(&mut map, slot.address - base);
         }
         map
     }
-}
-
-// The sum of a slot's counters.
-fn slot_sum(slot: &Slot) -> u64
-    requires { (k : ℕ) → k < 8 → slice_index slot.now.counters k ≤ counter_limit }
-    ensures value { result ≡ sum_to 8 (row slot.now.counters) }
-    ensures small { result ≤ 8 * counter_limit }
-{
-    sum_of(&slot.counters)
 }

@@ -6,6 +6,7 @@ mod tests {
     use aes::Aes128;
     use cmac::CmacKey;
     use sip::SipKey;
+    use std::array;
 
     const EXAMPLE_KEY: u128 = 0x2b7e151628aed2a6abf7158809cf4f3c;
 
@@ -59,11 +60,7 @@ mod tests {
 
     // The bytes 0 to 63.
     fn counting() -> [u8; 64] {
-        let mut bytes = [0; 64];
-        for i in 0..64 {
-            bytes[i] = i as u8;
-        }
-        bytes
+        array::from_fn(|i| i as u8)
     }
 
     // The SipHash paper's example, of 15 bytes, and some of the authors' 64 reference vectors.

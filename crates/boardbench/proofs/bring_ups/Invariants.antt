@@ -1,5 +1,5 @@
-use Prim.Native.Nat.{◌≤◌}
+use Rattle.std.proofs.Common.{◌≤◌}
 use Rattle.boardbench.proofs.bring_ups.Given as goal
 
-abbrev pub invariant-loop-j : goal.invariant-loop-j
-invariant-loop-j g l = l.done ≤ l.j
+abbrev pub invariant-loop : goal.invariant-loop
+invariant-loop g l = l.done ≤ l.counter

@@ -10,8 +10,8 @@ pub returns : goal.returns
 returns g c =
     let meaning = g.B.Board.meaning in
     let scheme = g.S.Suite.scheme in
-    let formats : g.row.B.Denot → Type 0 = λ y. Formats (scheme c.args.suite) c.args.header.now.levels (meaning y) (report_by c.format-outcome.result 0) (meaning c.format-outcome.new.cold.board) in
-    let kept : g.row.B.Denot → Type 0 = λ y. Keeps (scheme c.args.suite) (cold_in (meaning y)) (format c.args.header.now.levels) (report_by c.format-outcome.result 0) (cold_in (meaning c.format-outcome.new.cold.board)) in
+    let formats : g.row.B.Denot → Type 0 = λ y. Formats (scheme c.args.suite) c.args.script.now.header.levels (meaning y) (report_by c.format-outcome.result 0) (meaning c.format-outcome.new.cold.board) in
+    let kept : g.row.B.Denot → Type 0 = λ y. Keeps (scheme c.args.suite) (cold_in (meaning y)) (format c.args.script.now.header.levels) (report_by c.format-outcome.result 0) (cold_in (meaning c.format-outcome.new.cold.board)) in
     IfOk-weaker c.print_table-open.result.1 _ _
     (λ _ e. (
       e.0,
@@ -26,7 +26,7 @@ returns g c =
         chip = c.bring_up-open.result.0.chip;
         brings_up = c.bring_up-open.ensures.does;
         bring_up_kept = c.bring_up-open.ensures.law;
-        prints = subst (λ y. Table (scheme y) c.args.header.now (lines_of c.args.text.now) c.format-outcome.result (meaning c.bring_up-open.result.0.board) c.bring_up-open.result.0.chip e.0) c.bring_up-open.ensures.suite e.2;
+        prints = subst (λ y. Table (scheme y) c.args.script.now.header (lines_of c.args.script.now.steps.now) c.format-outcome.result (meaning c.bring_up-open.result.0.board) c.bring_up-open.result.0.chip e.0) c.bring_up-open.ensures.suite e.2;
       },
     ))
     c.print_table-open.ensures

@@ -15,9 +15,9 @@ of_parts ws ws' reg reg' left left' p q r =
 pub returns : goal.returns
 returns g c =
     let b = c.fused_memory-board.result in
-    let same : fused (memory b.below.words.now b.below.register) b.left ≡ on_memory c.args.words.now c.args.header.now.fuse =
-    of_parts b.below.words.now c.args.words.now b.below.register (replicate 32 0) b.left c.args.header.now.fuse
+    let same : fused (memory b.below.words.now b.below.register) b.left ≡ on_memory c.args.words.now c.args.script.now.header.fuse =
+    of_parts b.below.words.now c.args.words.now b.below.register (replicate 32 0) b.left c.args.script.now.header.fuse
     c.fused_memory-board.ensures.words c.fused_memory-board.ensures.register c.fused_memory-board.ensures.left in
     IfOk-weaker c.play_script-board.result.1 _ _
-    (λ _ e. (e.0, e.1, subst (λ (y : Meaning). Run (g.S.Suite.scheme c.args.suite) c.args.header.now (lines_of c.args.text.now) y e.0) same e.2))
+    (λ _ e. (e.0, e.1, subst (λ (y : Meaning). Run (g.S.Suite.scheme c.args.suite) c.args.script.now.header (lines_of c.args.script.now.steps.now) y e.0) same e.2))
     c.play_script-board.ensures

@@ -6,8 +6,8 @@ use Rattle.bench.proofs.running.print_all.Goals as goal
 
 pub returns-in-Ok : goal.returns-in-Ok
 unfolding blank Printed
-returns-in-Ok c = IfOk-weaker c.play_header.result _ _ (λ _ e. (e.0, e.1, (Ok (c.in-Ok.header, c.in-Ok.rest), c.in-Ok.ensures, e.2))) c.play_header.ensures
+returns-in-Ok c = IfOk-weaker c.play_keyed.result _ _ (λ _ e. (e.0, e.1, (Ok (c.in-Ok.header, c.in-Ok.steps), c.in-Ok.ensures, e.2))) c.play_keyed.ensures
 
-pub returns-in-Err : goal.returns-in-Err
+pub returns-in_ok-writeln-in-Err : goal.returns-in_ok-writeln-in-Err
 unfolding Printed
-returns-in-Err c = IfOk-weaker c.print_bad.result _ _ (λ _ e. (bad c.in-Err.line, e, (Err c.in-Err.line, c.in-Err.ensures, refl))) c.print_bad.ensures
+returns-in_ok-writeln-in-Err c = (bad c.in-Err.bad.number, c.in_ok-writeln-in-Err.ensures.bytes, (Err c.in-Err.bad, c.in-Err.ensures, refl))

@@ -1,8 +1,8 @@
-use Rattle.std.proofs.Common.{◌≡◌, length, refl, arith, rules}
-use Rattle.cmac.proofs.Chain.{shifted_from}
+use Rattle.std.proofs.Common.{get_or, ◌+◌, ◌*◌, ◌/◌, ◌%◌, rules}
+use Rattle.cmac.specs.Cmac.{shifted}
+use Rattle.cmac.proofs.Chain.{made}
 use Rattle.cmac.proofs.blocks.shifted.Goals as goal
 
 pub returns : goal.returns
-returns c =
-    let len : length c.args.b.now ≡ 16 = search rules in
-    shifted_from c.args.b.now c.loop-i.out c.loop-i.i _ len c.loop-i.invariant.0 (omega arith) c.loop-i.invariant.1 refl
+unfolding shifted
+returns c = made _ (λ k. get_or c.args.b.now k 0 % 128 * 2 + get_or c.args.b.now (k + 1) 0 / 128) _ (λ i y q h. (search rules, search rules)) c.from_fn.result c.from_fn.ensures.items

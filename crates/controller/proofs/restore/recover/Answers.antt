@@ -2,22 +2,19 @@ use Rattle.std.proofs.Common.{eqb, sym, ap, ◌∙◌}
 use Rattle.std.proofs.lemmas.Result.{err_from_is_err_and}
 use Rattle.machine.specs.Words.{register_in}
 use Rattle.machine.specs.Plans.{map_count, sum_of}
-use Rattle.tree.specs.Layouts.{shape_in}
+use Rattle.machine.specs.Layouts.{shape_in}
 use Rattle.tree.specs.SlotTable.{table_in}
-use Rattle.tree.specs.declared.types.Layout.{Layout}
+use Rattle.machine.specs.declared.layout.Layout.{Layout}
 use Rattle.controller.specs.Views.{tree_fault}
 use Rattle.controller.proofs.RestoreSteps.{recover_err, recover_missed, recover_ok, levels_in, fields_levels, fields_sum, fields_map}
 use Rattle.controller.proofs.restore.recover.Goals as goal
 
-pub restore-requires : goal.restore-requires
+pub restore-requires-clause-dirty_nodes : goal.restore-requires-clause-dirty_nodes
 unfolding map_count
-restore-requires g c =
+restore-requires-clause-dirty_nodes g c =
     let M = g.B.Board.meaning c.args.board.now in
     let q = c.decode-register.ensures.meaning ∙ ap register_in c.read_register.ensures in
-    let f = c.decode-register.result in record {
-      start = (c.requires.0, (c.new-slots.ensures.layout, (c.new-slots.ensures.table, c.new-slots.ensures.empty)));
-      dirty_nodes = (fields_map f M.register q c.args.layout.levels (c.requires.0.own ∙ sym (levels_in M.register) ∙ sym (fields_levels f M.register q)), c.requires.1);
-    }
+    let f = c.decode-register.result in (fields_map f M.register q c.args.layout.levels (c.requires.0.own ∙ sym (levels_in M.register) ∙ sym (fields_levels f M.register q)), c.requires.1)
 
 pub returns-in_err-restore : goal.returns-in_err-restore
 returns-in_err-restore g c =

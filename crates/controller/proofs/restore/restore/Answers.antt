@@ -1,47 +1,24 @@
-use Rattle.std.proofs.Common.{◌≡◌, ◌+◌, ◌-◌, ◌^◌, ◌<◌, ◌≤◌, sym, ap, ◌∙◌, subst, arith}
+use Rattle.std.proofs.Common.{◌≡◌, ◌+◌, ◌^◌, ◌<◌, ◌≤◌, sym, ap, ◌∙◌, subst, arith}
 use mathlib.Core.Option.{some}
 use Rattle.std.proofs.lemmas.Result.{err_from_is_err_and}
-use Rattle.machine.specs.Layout.{eight_ary, lines_of, update}
-use Rattle.machine.specs.Words.{register_in}
-use Rattle.machine.specs.Plans.{Table, restore, restore_node}
-use Rattle.machine.proofs.EightAry.{eight_trees}
-use Rattle.tree.specs.Layouts.{shape_in}
+use Rattle.machine.specs.Layout.{eight_ary, update}
+use Rattle.machine.specs.Plans.{restore_node}
+use Rattle.machine.specs.Layouts.{shape_in}
 use Rattle.tree.specs.Tables.{slot_in}
 use Rattle.tree.specs.SlotTable.{table_in, FitToPush}
-use Rattle.tree.specs.declared.types.Layout.{Layout}
+use Rattle.machine.specs.declared.layout.Layout.{Layout}
 use Rattle.controller.specs.Views.{tree_fault, view_in}
-use Rattle.controller.specs.Restores.{map_below}
 use Rattle.controller.proofs.RestoreSteps.{step_ok, step_err, step_count, step_empty, step_end, pushed}
 use Rattle.controller.proofs.restore.restore.Goals as goal
 
-pub overflow_sub-below : goal.overflow_sub-below
-overflow_sub-below g c = omega (arith, c.data_lines-base.ensures.value, c.lines.ensures.value, (eight_trees c.args.layout.levels c.args.layout.low c.args.layout.high).data_in)
-
-pub loop-j-init : goal.loop-j-init
-loop-j-init g c =
-    let M = g.B.Board.meaning c.args.board.now in
-    let K = g.S.Suite.scheme c.args.suite.now in
-    let h = c.args.layout.levels in
-    let t = c.requires.start.1.1.0 in
-    let e : 8 ^ h + (c.lines.result - c.data_lines-base.result) ≡ lines_of h = omega (arith, c.data_lines-base.ensures.value, c.lines.ensures.value, (eight_trees h c.args.layout.low c.args.layout.high).data_in) in (
-      omega (arith, e),
-      c.requires.start.1.0,
-      (λ p k. ap (λ (u : Table). u p) t),
-      subst (λ n. c.args.slots.now.used + map_below n (register_in M.register) ≤ 64) (sym e) (omega (arith, c.requires.start.1.1.1, c.requires.dirty_nodes.1)),
-      ap (λ n. restore (eight_ary h) K n (view_in M (table_in c.args.slots.now))) e ∙ ap (λ (u : Table). restore (eight_ary h) K (lines_of h) (view_in M u)) t,
-    )
-
-pub returns-in_err-slot : goal.returns-in_err-slot
-returns-in_err-slot g c =
+pub returns-in_err-slot-clause-value : goal.returns-in_err-slot-clause-value
+returns-in_err-slot-clause-value g c =
     let x = err_from_is_err_and c.from_residual.result c.from_residual.ensures.1 in
     let M = g.B.Board.meaning c.args.board.now in
     let K = g.S.Suite.scheme c.args.suite.now in
     let h = c.args.layout.levels in
     let at : c.data_lines-base.result + c.in-Some.j ≡ 8 ^ h + c.in-Some.j = ap (λ b. b + c.in-Some.j) c.data_lines-base.ensures.value in
-    rw (x.1, x.2) (record {
-      value = sym c.loop-j.invariant.4 ∙ step_err h M K c.args.map.now c.requires.dirty_nodes.0 c.loop-j.below (table_in c.loop-j.slots) c.in-Some.j c.in-Some.ensures (tree_fault c.in_err-slot.field-0.0) (c.in_err-slot.ensures.value ∙ ap (restore_node (eight_ary h) K (view_in M (table_in c.loop-j.slots))) at);
-      layout = c.loop-j.invariant.1;
-    })
+    rw (x.1, x.2) (sym c.loop-j.invariant.4 ∙ step_err h M K c.args.map.now c.requires.dirty_nodes.0 c.loop-j.below (table_in c.loop-j.slots) c.in-Some.j c.in-Some.ensures (tree_fault c.in_err-slot.field-0.0) (c.in_err-slot.ensures.value ∙ ap (restore_node (eight_ary h) K (view_in M (table_in c.loop-j.slots))) at))
 
 pub loop-j-preserved : goal.loop-j-preserved
 loop-j-preserved g c =
@@ -71,12 +48,9 @@ loop-j-preserved g c =
       sym (step_ok h M K c.args.map.now c.requires.dirty_nodes.0 c.loop-j.below (table_in c.loop-j.slots) c.in-Some.j c.in-Some.ensures (slot_in s) (table_in c.push.new.self) (d.value ∙ ap (restore_node (eight_ary h) K (view_in M (table_in c.loop-j.slots))) at) grown) ∙ I.4,
     )
 
-pub returns : goal.returns
-returns g c =
+pub returns-clause-value : goal.returns-clause-value
+returns-clause-value g c =
     let M = g.B.Board.meaning c.args.board.now in
     let K = g.S.Suite.scheme c.args.suite.now in
     let h = c.args.layout.levels in
-    record {
-      value = sym c.loop-j.invariant.4 ∙ step_end h M K c.args.map.now c.requires.dirty_nodes.0 c.loop-j.below (table_in c.loop-j.slots) c.in_default.ensures;
-      layout = c.loop-j.invariant.1;
-    }
+    sym c.loop-j.invariant.4 ∙ step_end h M K c.args.map.now c.requires.dirty_nodes.0 c.loop-j.below (table_in c.loop-j.slots) c.in_default.ensures

@@ -3,7 +3,7 @@ use mathlib.Core.Option.{none}
 use Rattle.machine.specs.Layout.{lines_of}
 use Rattle.machine.specs.Words.{register_in}
 use Rattle.machine.specs.Plans.{restore}
-use Rattle.tree.specs.Layouts.{shape_in}
+use Rattle.machine.specs.Layouts.{shape_in}
 use Rattle.tree.specs.SlotTable.{table_in, no_slots}
 use Rattle.controller.specs.Views.{view_in}
 use Rattle.controller.specs.Restores.{map_below}

@@ -1,18 +1,12 @@
--- No bit beyond the nodes is set, or one is.
-use Rattle.std.proofs.Common.{◌≡◌, ℕ, ◌<◌, ◌≤◌, true, not, ◌||◌, ltb, ◌⊎◌, sym, ap, ◌∙◌, inl, inr, arith}
-use Rattle.std.proofs.lemmas.Bool.{lt-ltb, le-ltb, cases_lt}
+-- The bits past the nodes decide.
+use Rattle.std.proofs.Common.{◌≡◌, ℕ, ◌-◌, Bool, true, false, not, refl, rules}
+use Rattle.std.proofs.lemmas.Iterator.{cases_from_all, YieldsList-from_range}
 use Rattle.machine.specs.Words.{bit}
-use Rattle.machine.proofs.Basics.{every_from, every_fails}
+use Rattle.machine.proofs.ValidParts.{every_past}
 use Rattle.machine.proofs.validity.map_is_valid.Goals as goal
 
-pub returns-then-is_set : goal.returns-then-is_set
-returns-then-is_set c =
-    sym (every_fails 640 (λ j. ltb j c.args.nodes || not (bit c.args.dirty.now j)) c.loop-place.place c.loop-place-test.true
-    (ap (λ b. b || not (bit c.args.dirty.now c.loop-place.place)) (le-ltb c.loop-place.place c.args.nodes (omega arith)) ∙ ap not (sym c.if-is_set.ensures)))
-
 pub returns : goal.returns
-returns c = sym (every_from 640 (λ j. ltb j c.args.nodes || not (bit c.args.dirty.now j)) (λ j h. at j h (cases_lt j c.args.nodes)))
-  where
-    at : (j : ℕ) → j < 640 → (j < c.args.nodes) ⊎ (c.args.nodes ≤ j) → (ltb j c.args.nodes || not (bit c.args.dirty.now j)) ≡ true
-    at j h (inl k) = ap (λ b. b || not (bit c.args.dirty.now j)) (lt-ltb j c.args.nodes k)
-    at j h (inr k) = ap (λ b. b || not (bit c.args.dirty.now j)) (le-ltb j c.args.nodes k) ∙ ap not (c.loop-place.invariant j k (omega arith))
+returns c =
+    let p : ℕ → Bool = λ j. not (bit c.args.dirty.now j) in
+    every_past c.args.nodes 640 p c.all.result c.requires
+    (cases_from_all _ _ _ (λ j. p j ≡ true) (λ j. p j ≡ false) c.all.ensures.ran (YieldsList-from_range c.args.nodes 640 (640 - c.args.nodes) refl refl) (λ x q k. search rules) (λ x q k. search rules))

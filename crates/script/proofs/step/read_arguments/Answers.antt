@@ -1,6 +1,5 @@
-use Rattle.std.proofs.Common.{◌≡◌, length, sym, ap, rules}
-use Rattle.std.proofs.lemmas.List.{nil_from_length}
-use Rattle.script.proofs.Steps.{arity, no_one, no_two, two_words}
+use Rattle.std.proofs.Common.{ap}
+use Rattle.script.proofs.Steps.{arity, no_one, no_two}
 use Rattle.script.proofs.step.read_arguments.Goals as goal
 
 pub returns-in_err-read_one-in-r : goal.returns-in_err-read_one-in-r
@@ -14,12 +13,3 @@ returns-in_err-read_one-in-k c = rw c.from_residual-in_err-read_one-in-k.ensures
 
 pub returns-in_err-read_one-in-m : goal.returns-in_err-read_one-in-m
 returns-in_err-read_one-in-m c = rw c.from_residual-in_err-read_one-in-m.ensures (no_one c.args.letter c.args.text.now (ap arity c.in-m.is) c.in_err-read_one-in-m.ensures)
-
-pub returns-in_ok-at-in-w : goal.returns-in_ok-at-in-w
-returns-in_ok-at-in-w c = (sym c.in-w.is, two_words _ _ c.in_ok-at-in-w.ensures)
-
-pub returns-then-is_empty : goal.returns-then-is_empty
-returns-then-is_empty c = let z : length c.args.text.now ≡ 0 = search rules in (sym c.in-s.is, nil_from_length _ z)
-
-pub returns-then-is_empty-2 : goal.returns-then-is_empty-2
-returns-then-is_empty-2 c = let z : length c.args.text.now ≡ 0 = search rules in (sym c.in-d.is, nil_from_length _ z)

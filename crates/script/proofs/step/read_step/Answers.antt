@@ -1,15 +1,14 @@
-use Rattle.script.proofs.Steps.{step_once, no_letter, step_read}
+use Rattle.script.proofs.Steps.{step_once, no_letter}
 use Rattle.script.proofs.step.read_step.Goals as goal
 
-pub returns-in_err-after : goal.returns-in_err-after
-returns-in_err-after c = record { single = step_once; reads = rw c.from_residual.ensures (λ s h. c.in_err-after.ensures _ h.1) }
+pub returns-in_err-after-clause-single : goal.returns-in_err-after-clause-single
+returns-in_err-after-clause-single c = step_once
 
-pub returns-in_err-letter : goal.returns-in_err-letter
-returns-in_err-letter c = record { single = step_once; reads = rw c.from_residual-in_err-letter.ensures (no_letter c.args.line.now _ c.in_ok-after.ensures c.in_err-letter.ensures) }
+pub returns-in_err-letter-clause-single : goal.returns-in_err-letter-clause-single
+returns-in_err-letter-clause-single c = step_once
 
-pub returns : goal.returns
-returns c =
-    record {
-      single = step_once;
-      reads = step_read c.args.line.now _ _ _ c.in_ok-after.ensures c.in_ok-letter.ensures c.read_arguments.result c.read_arguments.ensures;
-    }
+pub returns-in_err-letter-clause-reads : goal.returns-in_err-letter-clause-reads
+returns-in_err-letter-clause-reads c = rw c.from_residual-in_err-letter.ensures (no_letter c.args.line.now _ c.in_ok-after.ensures c.in_err-letter.ensures)
+
+pub returns-clause-single : goal.returns-clause-single
+returns-clause-single c = step_once

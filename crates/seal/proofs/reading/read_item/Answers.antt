@@ -1,4 +1,4 @@
-use Rattle.seal.proofs.Lines.{none_sealed, none_opened, none_headed, seal_words, open_words}
+use Rattle.seal.proofs.Lines.{none_sealed, none_opened, none_headed, open_words}
 use Rattle.seal.proofs.reading.read_item.Goals as goal
 
 pub returns-in_err-words : goal.returns-in_err-words
@@ -9,9 +9,6 @@ returns-in_err-kind c = rw c.from_residual-in_err-kind.ensures (none_headed c.ar
 
 pub returns-in_err-words-2 : goal.returns-in_err-words-2
 returns-in_err-words-2 c = rw c.from_residual-in_err-words-2.ensures (none_opened c.args.text.now c.in_default.ensures _ _ c.in_ok-kind.ensures c.in_err-words-2.ensures)
-
-pub returns-in-Some : goal.returns-in-Some
-returns-in-Some c = rw c.sealing.ensures (c.in-Some.rest.now, c.in-Some.ensures, seal_words _ _ c.in_ok-words.ensures)
 
 pub returns : goal.returns
 returns c = rw c.opening.ensures (c.in_ok-kind.rest.now, c.in_ok-kind.ensures, open_words _ _ c.in_ok-words-2.ensures)

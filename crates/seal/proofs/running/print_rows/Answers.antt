@@ -1,24 +1,23 @@
-use Rattle.std.proofs.Common.{◌<◌, length, string_bytes, arith}
-use Rattle.std.proofs.lemmas.Result.{IfOk-weaker}
-use Rattle.text.proofs.Cuts.{line_shorter}
-use Rattle.seal.proofs.Rows.{rows_bad, rows_more, rows_end}
+use Rattle.std.proofs.Common.{◌≡◌, ◌+◌, ◌∷◌, length, string_bytes, ap, inl, inr, arith}
+use Rattle.std.specs.Iterator.Adapters.{zip_first, zip_second}
+use Rattle.text.specs.Spelling.{lines_of}
+use Rattle.text.proofs.Cuts.{lines_within}
+use Rattle.seal.proofs.Rows.{rows_more, rows_end}
 use Rattle.seal.proofs.running.print_rows.Goals as goal
 
-pub returns-in_default-read_item : goal.returns-in_default-read_item
-returns-in_default-read_item g c =
-    IfOk-weaker c.print_bad.result _ _
-    (λ _ e. rows_bad (g.S.Suite.scheme c.args.suite.now) c.args.text.now c.loop-line.rest.now c.loop-line.number (string_bytes c.args.out.now) (string_bytes c.loop-line.out) c.loop-line.invariant.0 _ _ c.in-Some.ensures _ c.in_default-read_item.ensures e)
-    c.print_bad.ensures
-
-pub loop-line-smaller : goal.loop-line-smaller
-loop-line-smaller g c = line_shorter _ _ _ c.in-Some.ensures
-
-pub loop-line-preserved : goal.loop-line-preserved
-loop-line-preserved g c =
-    let shorter : length c.in-Some.behind.now < length c.loop-line.rest.now = line_shorter _ _ _ c.in-Some.ensures in (
-      rows_more (g.S.Suite.scheme c.args.suite.now) c.args.text.now c.loop-line.rest.now c.loop-line.number (string_bytes c.args.out.now) (string_bytes c.loop-line.out) c.loop-line.invariant.0 _ _ c.in-Some.ensures _ _ (string_bytes c.writeln.new.self) c.in-Some-read_item.ensures c.answer-reply.ensures c.in_ok-writeln.ensures.bytes,
-      omega (arith, c.loop-line.invariant.1),
+pub loop-number-preserved : goal.loop-number-preserved
+loop-number-preserved g c =
+    let next : (zip_first c.next.new.self).start ≡ (zip_first c.loop-number.number-iterator).start + 1 = omega (arith, c.in-Some.ensures.steps.0) in
+    let line : lines_of (zip_second c.loop-number.number-iterator).text.now ≡ c.in-Some.line.now ∷ lines_of (zip_second c.next.new.self).text.now = c.in-Some.ensures.steps.1 in (
+      (tt, tt),
+      tt,
+      rows_more (g.S.Suite.scheme c.args.suite.now) (lines_of c.args.text.now) _ _ (string_bytes c.args.out.now) (string_bytes c.loop-number.out) c.loop-number.invariant.2 _ _ line c.in-Some-read_item.item c.answer-reply.result (string_bytes c.writeln-in-loop-number.new.self) _ c.in-Some-read_item.ensures c.answer-reply.ensures c.in_ok-writeln-2.ensures.bytes next,
+      omega (arith, c.loop-number.invariant.3, ap length line),
     )
 
 pub returns : goal.returns
-returns g c = rows_end (g.S.Suite.scheme c.args.suite.now) c.args.text.now c.loop-line.rest.now c.loop-line.number (string_bytes c.args.out.now) (string_bytes c.loop-line.out) c.loop-line.invariant.0 c.in_default.ensures
+returns g c =
+    elim c.in-None.ensures.steps [
+      | inl (_, h) ↦ absurd (omega (arith, h.0, c.loop-number.invariant.3, lines_within c.args.text.now))
+      | inr (_, h) ↦ rows_end (g.S.Suite.scheme c.args.suite.now) (lines_of c.args.text.now) _ _ (string_bytes c.args.out.now) (string_bytes c.loop-number.out) c.loop-number.invariant.2 h.0
+    ]

@@ -1,17 +1,14 @@
-use Rattle.std.proofs.Common.{◌≡◌, ◌/◌, length, ap, ◌∙◌, arith}
-use Rattle.sip.specs.Sip.{absorbed, word}
-use Rattle.sip.proofs.Bytes.{absorbed_more}
+use Rattle.std.proofs.Common.{arith}
+use Rattle.sip.specs.Sip.{absorbed}
+use Rattle.sip.proofs.Bytes.{absorbed_more, word_read}
 use Rattle.sip.proofs.SipKey.absorb.Goals as goal
 
-pub loop-i-init : goal.loop-i-init
+pub loop-word-init : goal.loop-word-init
 unfolding absorbed
-loop-i-init c = c.start-state.ensures
+loop-word-init c = c.start-state.ensures
 
-pub loop-i-preserved : goal.loop-i-preserved
-unfolding word
-loop-i-preserved c = let e = absorbed_more c.args.self.now.bytes c.args.message.now c.loop-i.i in cc
-
-pub returns : goal.returns
-returns c =
-    let n : c.loop-i.i ≡ length c.args.message.now / 8 = omega arith in
-    c.loop-i.invariant ∙ ap (absorbed c.args.self.now.bytes c.args.message.now) n
+pub loop-word-preserved : goal.loop-word-preserved
+loop-word-preserved c =
+    let w = word_read c.args.message.now c.as_chunks.result.0.now _ c.loop-word.word-index c.from_le_bytes.result c.as_chunks.ensures.front (omega arith) c.from_le_bytes.ensures in
+    let m = absorbed_more c.args.self.now.bytes c.args.message.now c.loop-word.word-index in
+    cc

@@ -11,4 +11,4 @@ returns-then-at-data_lines g c =
     let m = g.B.Board.meaning s.board in
     let K = g.S.Suite.scheme s.suite in
     let p = c.in_ok-layout.ensures in
-    answers_read K m (table_in s.chip.slots) s.chip.slots.layout.levels s.chip.slots.used s.chip.latched c.in_default.is c.in_ok-layout.layout.levels p.1 p.0 c.args.at _ (ap read_answer (read_beyond c.in_ok-layout.layout.levels m K (table_in s.chip.slots) c.args.at (omega (arith, c.if-at-data_lines.true, c.data_lines.ensures.value))))
+    answers_read K m (table_in s.chip.slots) s.chip.slots.layout.levels s.chip.slots.used s.chip.latched p.0 c.in_ok-layout.layout.levels p.1.1 p.1.0 c.args.at _ (ap read_answer (read_beyond c.in_ok-layout.layout.levels m K (table_in s.chip.slots) c.args.at (omega (arith, c.if-at-data_lines.true, c.data_lines.ensures.value))))

@@ -1,30 +1,37 @@
--- Each part that fails makes the register invalid; past them the journal decides.
-use Rattle.std.proofs.Common.{◌≡◌, ◌+◌, ◌-◌, ◌^◌, sym, ◌∙◌, arith, rules}
+-- The levels, and then four parts, each of which decides where those before it pass.
+use Rattle.std.proofs.Common.{◌≡◌, ◌+◌, ◌^◌, sym, ◌∙◌, subst}
+use Rattle.std.proofs.lemmas.Bool.{both_ways, ne_eqb}
 use Rattle.machine.specs.Layout.{lines_of}
-use Rattle.machine.proofs.ValidParts.{not_formatted, too_few_levels, too_many_levels, bad_roots, bad_map, the_rest}
+use Rattle.machine.proofs.ValidParts.{no_levels, not_formatted, bad_roots, bad_map, the_rest}
 use Rattle.machine.proofs.types.Register.is_valid.Goals as goal
+use Rattle.machine.proofs.types.Register.is_valid.Goals.{then-self-eq1, else-self-eq1, then-within_limit, else-within_limit}
 
-pub returns-then-self-ne1 : goal.returns-then-self-ne1
-returns-then-self-ne1 c = sym (not_formatted c.args.self.now (search rules))
+pub returns-in_default : goal.returns-in_default
+returns-in_default c = sym (no_levels c.args.self.now c.in_default.ensures)
 
-pub returns-then-self-lt1 : goal.returns-then-self-lt1
-returns-then-self-lt1 c = sym (too_few_levels c.args.self.now (search rules))
+pub returns-then-map_is_valid : goal.returns-then-map_is_valid
+returns-then-map_is_valid c =
+    let f = c.args.self.now in
+    let y = c.in-Some.ensures in
+    elim c.if-within_limit.branch [
+      | then-within_limit w ↦ elim c.if-self-eq1.branch [
+        | then-self-eq1 v ↦
+            let e = subst (λ h. w.nodes.result + 8 ^ h ≡ lines_of h) y.0 w.nodes.ensures.value in
+            c.journal_is_valid.ensures f.levels (subst (λ h. c.lines.result ≡ lines_of h) y.0 c.lines.ensures.value)
+            ∙ sym (the_rest f w.nodes.result e v.if-self-eq1.true y.1 y.2 (sym v.within_limit.ensures ∙ sym v.value-is ∙ w.if-within_limit.true) (sym w.map_is_valid.ensures ∙ sym w.value-is ∙ c.if-map_is_valid.true))
+        | else-self-eq1 v ↦ absurd (both_ways c.if-self-eq1.value (v.value-is ∙ ne_eqb f.formatted 1 v.if-self-eq1.false) w.if-within_limit.true)
+      ]
+      | else-within_limit w ↦ absurd (both_ways c.if-within_limit.value (w.value-is ∙ w.if-within_limit.false) c.if-map_is_valid.true)
+    ]
 
-pub returns-then-self-gt4 : goal.returns-then-self-gt4
-returns-then-self-gt4 c = sym (too_many_levels c.args.self.now (search rules))
-
-pub returns-then-not-roots_are_valid : goal.returns-then-not-roots_are_valid
-returns-then-not-roots_are_valid c = sym (bad_roots c.args.self.now (sym c.roots_are_valid.ensures ∙ c.if-not-roots_are_valid.true))
-
-pub returns-then-not-map_is_valid : goal.returns-then-not-map_is_valid
-returns-then-not-map_is_valid c =
-    let n = c.sizes-data_lines.result.1 - c.sizes-data_lines.result.0 in
-    let e : n + 8 ^ c.args.self.now.levels ≡ lines_of c.args.self.now.levels = omega arith in
-    sym (bad_map c.args.self.now n e (sym c.map_is_valid.ensures ∙ c.if-not-map_is_valid.true))
-
-pub returns : goal.returns
-returns c =
-    let n = c.sizes-data_lines.result.1 - c.sizes-data_lines.result.0 in
-    let e : n + 8 ^ c.args.self.now.levels ≡ lines_of c.args.self.now.levels = omega arith in
-    c.journal_is_valid.ensures c.args.self.now.levels (search rules)
-    ∙ sym (the_rest c.args.self.now n e (search rules) (search rules) (search rules) (sym c.roots_are_valid.ensures ∙ c.if-not-roots_are_valid.false) (sym c.map_is_valid.ensures ∙ c.if-not-map_is_valid.false))
+pub returns-else-map_is_valid : goal.returns-else-map_is_valid
+returns-else-map_is_valid c =
+    let f = c.args.self.now in
+    c.if-map_is_valid.false
+    ∙ sym (elim c.if-within_limit.branch [
+      | then-within_limit w ↦ bad_map f w.nodes.result (subst (λ h. w.nodes.result + 8 ^ h ≡ lines_of h) c.in-Some.ensures.0 w.nodes.ensures.value) (sym w.map_is_valid.ensures ∙ sym w.value-is ∙ c.if-map_is_valid.false)
+      | else-within_limit w ↦ elim c.if-self-eq1.branch [
+        | then-self-eq1 v ↦ bad_roots f (sym v.within_limit.ensures ∙ sym v.value-is ∙ w.if-within_limit.false)
+        | else-self-eq1 v ↦ not_formatted f v.if-self-eq1.false
+      ]
+    ])

@@ -4,11 +4,6 @@ use Rattle.tree.specs.SlotTable.{table_in}
 use Rattle.tree.proofs.Rows.{table_missing}
 use Rattle.tree.proofs.types.Slots.new.Goals as goal
 
-pub returns : goal.returns
+pub returns-clause-table : goal.returns-clause-table
 unfolding table_in
-returns c =
-    record {
-      table = fun_ext (λ p. table_missing c.unused.result.table c.unused.result.used p (λ k h e. omega (arith, c.unused.ensures.empty)));
-      empty = c.unused.ensures.empty;
-      layout = c.unused.ensures.layout;
-    }
+returns-clause-table c = fun_ext (λ p. table_missing _ 0 p (λ k h e. omega arith))

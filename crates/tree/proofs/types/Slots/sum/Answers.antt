@@ -1,25 +1,29 @@
-use Rattle.std.proofs.Common.{◌≡◌, ◌+◌, ap, ◌∙◌, arith, rules}
-use Rattle.machine.specs.Plans.{sum_of}
-use Rattle.tree.specs.Layouts.{shape_in}
-use Rattle.tree.specs.Tables.{rows_in}
+use Rattle.std.proofs.Common.{rules, ◌≡◌, ◌^◌, ◌<◌, ◌∙◌, take, sum_by, arith}
+use Rattle.std.proofs.iter.runs.Made.{chains}
+use Rattle.std.proofs.iter.Serving.{serving}
+use Rattle.machine.specs.Layout.{sum_to}
+use Rattle.suite.specs.Words.{row}
+use Rattle.tree.specs.declared.types.Slot.{Slot}
 use Rattle.tree.specs.SlotTable.{table_in}
 use Rattle.tree.proofs.InOrder.{ordered_in}
-use Rattle.tree.proofs.Sums.{sum_start, sum_next}
+use Rattle.tree.proofs.Sums.{slots_each, slots_value, slots_small}
 use Rattle.tree.proofs.types.Slots.sum.Goals as goal
 
-pub loop-i-init : goal.loop-i-init
-loop-i-init c = (sum_start c.args.self.now.layout.levels c.args.self.now.table c.args.self.now.used (ordered_in c.args.self.now), omega arith)
+pub sum-requires-clause-can : goal.sum-requires-clause-can
+sum-requires-clause-can c =
+    let s = c.args.self.now in
+    let each = slots_each s.layout.levels s.table s.used (ordered_in s) in
+    grind serving
 
-pub loop-i-preserved : goal.loop-i-preserved
-loop-i-preserved c = (
-  ap (λ x. x + c.slot_sum-sum.result) c.loop-i.invariant.0
-      ∙ ap (λ x. sum_of (shape_in c.args.self.now.layout) (rows_in c.args.self.now.table c.loop-i.i) + x) c.slot_sum-sum.ensures.value
-      ∙ sum_next c.args.self.now.layout.levels c.args.self.now.table c.args.self.now.used (ordered_in c.args.self.now) c.loop-i.i (search rules),
-  omega (arith, c.slot_sum-sum.ensures.small),
-)
+pub sum-requires-clause-fits : goal.sum-requires-clause-fits
+sum-requires-clause-fits c =
+    let s = c.args.self.now in
+    let small : sum_by (λ (s : Slot). sum_to 8 (row s.counters)) (take s.used s.table) < 2 ^ 64 = omega (arith, slots_small s.layout.levels s.table s.used (ordered_in s), s.few) in
+    search (rules, chains)
 
 pub returns : goal.returns
 unfolding table_in
 returns c =
-    let e : c.loop-i.i ≡ c.args.self.now.used = search rules in
-    c.loop-i.invariant.0 ∙ ap (λ n. sum_of (shape_in c.args.self.now.layout) (rows_in c.args.self.now.table n)) e
+    let s = c.args.self.now in
+    let total : c.sum.result ≡ sum_by (λ (s : Slot). sum_to 8 (row s.counters)) (take c.args.self.now.used c.args.self.now.table) = search (rules, chains) in
+    total ∙ slots_value s.layout.levels s.table s.used (ordered_in s)

@@ -1,5 +1,0 @@
-use Rattle.aes.proofs.Packed.{unpack_xor}
-use Rattle.aes.proofs.columns.Columns.xor.Goals as goal
-
-pub returns : goal.returns
-returns c = unpack_xor c.args.self c.args.k
