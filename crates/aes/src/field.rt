@@ -64,5 +64,5 @@ pub(crate) fn sub_byte(b: u8) -> u8
 pub(crate) fn double(b: u8) -> u8
     ensures { result ≡ times b 2 }
 {
-    ((b as u16 * 2 % 256) as u8) ^ (b / 128 * 0x1b)
+    (b << 1) ^ (b / 128 * 0x1b)
 }

@@ -3,6 +3,7 @@ use Rattle.std.proofs.Common.{◌≡◌, ℕ, ◌+◌, List, [], ◌∷◌, ◌+
 use Rattle.board.specs.Meaning.{Meaning}
 use Rattle.board.specs.declared.types.Line.{Line}
 use Rattle.suite.specs.Scheme.{Scheme}
+use Rattle.text.specs.Writing.{Adds}
 use Rattle.script.specs.Script.{StepLine, row_text}
 use Rattle.script.specs.declared.types.Step.{Step}
 use Rattle.script.specs.declared.types.Row.{Row}
@@ -11,7 +12,7 @@ use Rattle.controller.specs.declared.event.Event.{Event}
 use Rattle.controller.specs.declared.event.Reply.{Reply}
 use Rattle.bench.specs.Steps.{event_of, copy_after}
 use Rattle.bench.specs.Rows.{row_of}
-use Rattle.bench.specs.Printed.{Played, Rows, Adds}
+use Rattle.bench.specs.Printed.{Played, Rows}
 
 module _ (S : Scheme) (cap : ℕ) (all : List (List ℕ)) (m₀ : Meaning) (c₀ : Chip) where
   -- the rows so far, and what is still to be printed behind them for the lines ls, which begin with step i

@@ -18,11 +18,12 @@ use Rattle.controller.specs.declared.event.Event.{Event}
 use Rattle.controller.specs.declared.event.Reply.{Reply}
 use Rattle.controller.specs.declared.event.Reply.TheVariants.{Put}
 use Rattle.text.specs.Spelling.{Reads, lines_of}
+use Rattle.text.specs.Writing.{bad}
 use Rattle.script.specs.Script.{StepLine, HeaderRead, Outcome, row_text}
 use Rattle.script.specs.declared.types.Header.{Header}
 use Rattle.script.specs.declared.types.Step.{Step}
 use Rattle.bench.specs.Steps.{event_of, copy_after}
-use Rattle.bench.specs.Rows.{row_of, head_text, bad}
+use Rattle.bench.specs.Rows.{row_of, head_text}
 
 -- What a step asked of the board, if anything, was played as an event of a script: every history that came to this board and chip goes on with the reply, and in a history or not it is what the event does there, with some supply of power.
 abbrev pub Played : Scheme → ℕ → Meaning → Chip → Option Event → Reply → Meaning → Chip → Type 0
@@ -78,7 +79,3 @@ AfterHeader (Ok p) out = Run (scheme_of p.0) p.0 (lines_of p.1.now) (on_memory b
 -- What is printed for all lines of the input. The suites are 1 and 2.
 unfoldable pub Printed : List (List ℕ) → List ℕ → Type 0
 Printed ls out = (r : Outcome (Header SuiteKind)) × HeaderRead ((1, Sip) ∷ (2, Cmac) ∷ []) ls r × AfterHeader r out
-
--- Bytes of this kind were added to a text.
-abbrev pub Adds : (List ℕ → Type 0) → List ℕ → List ℕ → Type 0
-Adds P before after = (added : List ℕ) × (after ≡ before ++ added) × P added

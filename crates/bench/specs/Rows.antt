@@ -38,7 +38,3 @@ made_text r n =
 -- What is printed of format at h levels, and the head of the table.
 abbrev pub head_text : Result (Unit {0}) Fault → ℕ → List ℕ
 head_text r h = made_text (result_of r) (lines_needed h)
-
--- What is printed at an unreadable line, by its number.
-abbrev pub bad : ℕ → List ℕ
-bad n = codes "bad=" ++ (decimal n ++ (10 ∷ []))

@@ -1,18 +1,17 @@
 // A script on any board that can be tampered with and recharged.
 ghost use Rattle.std.specs.Prelude.{◌≡◌, ◌+◌, ◌^◌, ◌<◌, ◌++◌, None, string_bytes, OnOk};
 ghost use Rattle.text.specs.Spelling.{lines_of};
+ghost use Rattle.text.specs.Writing.{bad, Adds};
 ghost use Rattle.machine.specs.History.{format as formatting, bring_up as bringing_up};
 ghost use Rattle.controller.specs.Worlds.{cold_in, world_in, report_by, Formats, Keeps};
 ghost use Rattle.controller.specs.BringUps.{BringsUp};
-ghost use Rattle.bench.specs.Rows.{bad};
-ghost use Rattle.bench.specs.Printed.{Played, Rows, Table, Run, Adds};
+ghost use Rattle.bench.specs.Printed.{Played, Rows, Table, Run};
 
 use crate::events::{copy_after, event_of};
 use crate::rows::{Head, row_of};
 use crate::types::Script;
 use board::board::Board;
 use board::tamper::{Recharge, Tamper};
-use board::types::Line;
 use controller::cold::Cold;
 use controller::event::{Event, Reply};
 use controller::open::Open;
@@ -35,6 +34,7 @@ fn play<B: Tamper + Recharge, S: Suite + Copy>(
 {
     match event {
         Some(event) => opened.run(slots, &event),
+        // The row of a step that asks nothing is that of `Put`: neither has anything to show.
         None => (opened, Reply::Put(false)),
     }
 }
@@ -49,7 +49,8 @@ fn print_bad_step(step: u64, out: &mut String) -> fmt::Result
     Ok(())
 }
 
-// Runs the steps of a text, and adds a row for each, up to the first unreadable line.
+// Runs the steps of a text, and adds a row for each, up to the first unreadable line. `Open` cannot be dropped, so the
+// open board is handed back on every way out, and an error returns by hand here and in `print_table`, without `?`.
 fn play_steps<B: Tamper + Recharge, S: Suite + Copy>(
     opened: Open<B, S>,
     slots: u64,

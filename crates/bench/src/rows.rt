@@ -4,15 +4,17 @@ ghost use Rattle.bench.specs.Rows.{row_of, result_of, lines_needed, made_text};
 
 use controller::event::Reply;
 use controller::types::Fault;
+use machine::types::Register;
 use script::types::Row;
 use std::fmt;
-use tree::dirty_map::{dirty_nodes, map_of};
+use tree::dirty_map::dirty_nodes;
 use tree::types::Layout;
 
 // The row of a step: its reply, and the dirty nodes and the dirty sum that the register then has.
 pub(crate) fn row_of(step: u64, reply: &Reply, register: &[u64; 32]) -> Row
     ensures { result ≡ row_of step reply.now register.now }
 {
+    let register = Register::decode(register);
     let silent = Row {
         step,
         result: 0,
@@ -20,8 +22,8 @@ pub(crate) fn row_of(step: u64, reply: &Reply, register: &[u64; 32]) -> Row
         at: 0,
         value: 0,
         commits: 0,
-        ahead: u64::from(dirty_nodes(&map_of(register))),
-        total: register[11],
+        ahead: u64::from(dirty_nodes(&register.dirty)),
+        total: register.dirty_sum,
     };
     match reply {
         Reply::Body(body) => Row {

@@ -1,7 +1,8 @@
 // The bench: a script on a memory of 584 lines under a fuse.
 ghost use Rattle.std.specs.Prelude.{◌≡◌, replicate, IfOk, string_bytes, OnOk};
 ghost use Rattle.text.specs.Spelling.{lines_of};
-ghost use Rattle.bench.specs.Printed.{scheme_of, on_memory, Run, Printed, Adds};
+ghost use Rattle.text.specs.Writing.{Adds};
+ghost use Rattle.bench.specs.Printed.{scheme_of, on_memory, Run, Printed};
 
 use crate::playing::play_script;
 use crate::types::Script;
@@ -16,7 +17,10 @@ use suite::sip_suite::SipSuite;
 use suite::suite::Suite;
 
 // The suites that the bench has, by number.
-const SUITES: [(u64, SuiteKind); 2] = [(1, SuiteKind::Sip), (2, SuiteKind::Cmac)];
+const SUITES: [(u64, SuiteKind); 2] = [
+    (SipSuite::NUMBER, SuiteKind::Sip),
+    (CmacSuite::NUMBER, SuiteKind::Cmac),
+];
 
 // The words of 584 lines: the board's memory is fixed, as that of the device is.
 const WORDS: usize = 9 * 584;
@@ -44,12 +48,13 @@ fn play_on_memory<S: Suite + Copy>(
     printed
 }
 
-// The same under the suite and the keys of the header.
+// Plays a script under the suite and the keys of its header.
 fn play_keyed(script: &Script, words: &mut [u64], out: &mut String) -> fmt::Result
     ensures { OnOk result (Adds (Run (scheme_of script.now.header) script.now.header (lines_of script.now.steps.now) (on_memory words.old script.now.header.fuse)) (string_bytes out.old) (string_bytes out.new)) }
 {
     let keys = script.header.keys;
-    // `seal` has the same two arms: a closure takes one type of suite, and a trait for what runs under both is longer.
+    // `seal` has the same two arms: a closure takes one type of suite, a trait for what runs under both is longer, and
+    // an enum of both suites could not have one `NUMBER`.
     match script.header.suite {
         SuiteKind::Sip => {
             play_on_memory(SipSuite::new(&keys.mac, &keys.pad), script, words, out)

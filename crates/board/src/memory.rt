@@ -14,14 +14,7 @@ pub struct Memory<'a> {
     register: [u64; 32],
 }
 
-// How many lines stand whole in so many words.
-fn whole_lines(words: usize) -> usize
-    ensures { result ≡ words / 9 }
-{
-    words / 9
-}
-
-// Writes a line into its nine words.
+// Writes a line into its nine words, in place: a conversion into an array would make nine words more, and copy them.
 fn put_line(part: &mut [u64], line: &Line)
     requires { length part.old ≡ 9 }
     ensures { part.new ≡ words_of line.now }
@@ -31,20 +24,22 @@ fn put_line(part: &mut [u64], line: &Line)
 }
 
 // The line that stands in nine words.
-fn line_in(words: &[u64; 9]) -> Line
-    ensures { result ≡ line_of words.now }
-{
-    Line {
-        body: *words.first_chunk().unwrap(),
-        tag: words[8],
+impl From<&[u64; 9]> for Line {
+    ghost from_gives = { λ words line. line ≡ line_of words.now };
+
+    fn from(words: &[u64; 9]) -> Line {
+        Line {
+            body: *words.first_chunk().unwrap(),
+            tag: words[8],
+        }
     }
 }
 
-// The number of lines.
+// How many lines stand whole in these words.
 fn lines_in(words: &[u64]) -> usize
     ensures { result ≡ length (lines_of words.now) }
 {
-    whole_lines(words.len())
+    words.len() / 9
 }
 
 // The line at an address, if there is one.
@@ -52,7 +47,7 @@ fn find(words: &[u64], at: usize) -> Option<Line>
     ensures { MatchOption result (length (lines_of words.now) ≤ at) (λ l. (at < length (lines_of words.now)) × (l ≡ slice_index_or (lines_of words.now) at l)) }
 {
     let (lines, _) = words.as_chunks();
-    Some(line_in(lines.get(at)?))
+    Some(Line::from(lines.get(at)?))
 }
 
 impl<'a> Memory<'a> {
@@ -72,7 +67,7 @@ impl<'a> Memory<'a> {
         self.words
     }
 
-    // Puts a line into its nine words, which are lent from the middle of all.
+    // Puts a line into its nine words, which are lent from the middle of all, by their place: of what a slice ends as, `as_chunks_mut` promises nothing.
     fn overwrite(&mut self, at: usize, line: &Line)
         requires { at < length self.old.words.now / 9 }
         ensures words { self.new.words.now ≡ with_line self.old.words.now at line.now }
@@ -98,7 +93,7 @@ impl Board for Memory<'_> {
         ensures meaning { LineWritten (memory self.old.words.now self.old.register) at line result (memory self.new.words.now self.new.register) }
         ensures words { WordsPut self.old.words.now at line (is_ok result) self.new.words.now }
     {
-        if at >= whole_lines(self.words.len()) {
+        if at >= self.count() {
             return Err(BoardFault::Absent);
         }
         self.overwrite(at, &line);

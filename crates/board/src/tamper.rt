@@ -8,6 +8,7 @@ use crate::types::Line;
 // A board whose lines can be reached from outside, past its power.
 pub trait Tamper: Board {
     // Puts a line in place; false where there is no such address.
+    // A bool as of `HashSet::insert`, and no `Result`: there is this one refusal, and no more to say of it.
     fn put(&mut self, at: usize, line: Line) -> bool
         ensures { LinePut (Self.Board.meaning self.old) at line result (Self.Board.meaning self.new) };
 }

@@ -11,6 +11,7 @@ use crate::types::{BoardFault, Line};
 #[derive(Drop)]
 pub struct Window<B> {
     below: B,
+    // no `Range`: its end may lie past the last number, where `new` has no way to refuse
     start: usize,
     len: usize,
 }
@@ -52,6 +53,7 @@ impl<B: Board> Window<B> {
     }
 
     // The address below of the line that the window shows at `at`.
+    // An `if` and no `then`: this closure, which adds to a field, needs its clauses written out, and they are longer.
     fn place(&self, at: usize) -> Option<usize>
         ensures { MatchOption result (length (windowed (B.Board.meaning self.now.below) self.now.start self.now.len).lines ≤ at) (λ k. Shows (B.Board.meaning self.now.below).lines self.now.start self.now.len at k) }
     {

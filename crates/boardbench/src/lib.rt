@@ -45,7 +45,8 @@ fn count<F: FnMut(u64) -> bool>(turns: u64, mut is_done: F) -> u64
     (0..turns).filter(|turn| is_done(*turn)).count() as u64
 }
 
-// Writes in turn at every eighth address below `span`, and counts those that were done.
+// Writes in turn at every eighth address below `span`, and counts those that were done. The board is handed back, here
+// and in `reads` and `bring_ups`, since not every board can be dropped.
 fn writes<B: Board, S: Suite + Copy>(mut open: Open<B, S>, span: u64, turns: u64) -> (B, u64)
     ensures { result.1 ≤ turns }
 {
@@ -72,6 +73,7 @@ fn bring_ups<B: Board, S: Suite + Copy>(open: Open<B, S>, suite: S, turns: u64) 
 {
     let mut current = open;
     let mut done = 0;
+    // A `fold` is no plainer: each turn moves the board, so board and count would go through its closure as a pair.
     for _ in 0..turns {
         let (next, outcome) = current.shut_down().bring_up(suite, 64);
         done += u64::from(outcome.is_ok());

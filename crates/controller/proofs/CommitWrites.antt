@@ -7,7 +7,9 @@ use Rattle.board.specs.Meaning.{Meaning}
 use Rattle.board.specs.Calls.{RegisterWritten, LineWritten}
 use Rattle.machine.specs.Layout.{eight_ary, lines_of}
 use Rattle.machine.specs.Store.{Register, line_at}
-use Rattle.machine.specs.Words.{row, line_in, register_in, memory_in}
+use Rattle.machine.specs.Words.{row, line_in, register_in, memory_in, no_address}
+use Rattle.machine.specs.Encoding.{register_meant}
+use Rattle.machine.specs.declared.types.Register.{Register as Fields}
 use Rattle.machine.specs.Plans.{Table, View, Run, is_dirty, sum_of, raise_table, commit_register, commit_under}
 use Rattle.controller.specs.Views.{view_in, tree_fault, Fits, with_line}
 use Rattle.machine.specs.Layouts.{shape_in}
@@ -15,8 +17,8 @@ use Rattle.tree.specs.SlotTable.{table_in, map_in}
 use Rattle.machine.specs.declared.layout.Layout.{Layout}
 use Rattle.tree.specs.declared.types.Slots.{Slots}
 use Rattle.controller.specs.Runs.{Went}
-use Rattle.controller.specs.Registers.{Journaled, root_words, raised_slots}
-use Rattle.controller.proofs.RegisterIs.{register_is}
+use Rattle.controller.specs.Registers.{with_root, raised_slots}
+use Rattle.controller.proofs.RegisterIs.{journaled, real, register_is}
 use Rattle.controller.proofs.TwoWrites.{two_lost, two_half, two_done}
 use Rattle.board.specs.declared.types.Line.{Line}
 use Rattle.board.specs.declared.types.BoardFault.{BoardFault}
@@ -46,14 +48,14 @@ pub record Prepared (h : ℕ) (m : Meaning) (S : Scheme) (t : Table) (a c : ℕ)
   pub sealed : line_in l ≡ line_at (eight_ary h) S a c b
   pub register : register_in ws ≡ commit_register (eight_ary h) (register_in m.register) (raise_table (eight_ary h) ((eight_ary h).depth (8 ^ h + a / 8)) (memory_in m.lines) t a c) a c (line_in l)
 
--- So are those that the code prepared, s₁ being the slots once the counter is raised.
+-- So are those that the code prepared, s₁ being the slots once the counter is raised and r the register then.
 pub prepared : (s s₁ : Slots) {m : Meaning} (F : Fits s.layout.levels m) {S : Scheme} {a c : ℕ} {b : Body} (k : a < lines_of s.layout.levels) {l : Line} (y : Layout) (e : y ≡ s.layout) (q : line_in l ≡ line_at (shape_in y) S a c b)
-    {ms raised ws : List ℕ} {sum : ℕ} (table : table_in s₁ ≡ raised_slots (shape_in s.layout) (memory_in m.lines) (table_in s) a c) (words : (raised ≡ root_words (shape_in s.layout) a c m.register) × (length m.register ≡ 32)) (layout : s₁.layout ≡ s.layout)
-    (N : Journaled raised sum a l ms ws) (f : sum ≡ sum_of (shape_in s₁.layout) (table_in s₁)) (g : map_in s₁.layout.levels ms ≡ (λ p. is_dirty (table_in s₁ p))) → Prepared s.layout.levels m S (table_in s) a c b l ws
-prepared s s₁ {m} F {S} {a} {c} {b} k {l} y e q {ms} {raised} {ws} {sum} table words layout N f g =
+    (ms : List ℕ) {ws : List ℕ} (r : Fields) {sum : ℕ} (table : table_in s₁ ≡ raised_slots (shape_in s.layout) (memory_in m.lines) (table_in s) a c) (raised : register_meant r ≡ with_root (shape_in s.layout) a c (register_in m.register)) (layout : s₁.layout ≡ s.layout)
+    (w : (a ≡ no_address → ⊥) → register_in ws ≡ register_meant (journaled r sum a l ms)) (f : sum ≡ sum_of (shape_in s₁.layout) (table_in s₁)) (g : map_in s₁.layout.levels ms ≡ (λ p. is_dirty (table_in s₁ p))) → Prepared s.layout.levels m S (table_in s) a c b l ws
+prepared s s₁ {m} F {S} {a} {c} {b} k {l} y e q ms {ws} r {sum} table raised layout w f g =
     record {
       sealed = q ∙ ap (λ (z : Layout). line_at (shape_in z) S a c b) e;
-      register = register_is s.layout.levels m F S (table_in s) a c k l ms ws sum (table_in s₁) (omega (arith, words.1)) (subst (λ (x : List ℕ). Journaled x sum a l ms ws) words.0 N) table
+      register = w (real s.layout.levels m F S (table_in s) a c k) ∙ register_is s.layout.levels m F S (table_in s) a c k r l ms sum (table_in s₁) raised table
           (f ∙ ap (λ (z : Layout). sum_of (shape_in z) (table_in s₁)) layout) (ap (λ (z : Layout). map_in z.levels ms) (sym layout) ∙ g);
     }
 

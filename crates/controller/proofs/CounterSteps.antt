@@ -1,8 +1,7 @@
 -- The current counter of a line, one step at a time.
-use Rattle.std.proofs.Common.{◌≡◌, ℕ, ◌+◌, ◌/◌, ◌%◌, ◌^◌, ◌<◌, ◌≤◌, Bool, true, false, cond, List, get_or, drop, sym, refl, ap, ◌∙◌, subst, arith}
+use Rattle.std.proofs.Common.{◌≡◌, ℕ, ◌+◌, ◌/◌, ◌%◌, ◌^◌, ◌<◌, ◌≤◌, Bool, true, false, cond, List, get_or, sym, refl, ap, ◌∙◌, subst, arith}
 use mathlib.Core.Option.{Option, some, none}
 use Rattle.std.proofs.lemmas.Bool.{both_ways}
-use Rattle.std.proofs.lemmas.List.{get_or-take, get_or-drop}
 use Rattle.suite.specs.Scheme.{Scheme}
 use Rattle.board.specs.Meaning.{Meaning}
 use Rattle.machine.specs.Layout.{Shape, TreeLaws, eight_ary, lines_of}
@@ -13,6 +12,9 @@ use Rattle.machine.specs.Layout.{all_within}
 use Rattle.controller.specs.Views.{view_in, Fits, node_line_valid}
 use Rattle.machine.proofs.EightAry.{eight_trees}
 use Rattle.board.specs.declared.types.Line.{Line}
+use Rattle.machine.specs.declared.types.Register.{Register as Fields}
+use Rattle.machine.specs.Store.{Register}
+use Rattle.machine.specs.Encoding.{register_meant}
 
 module _ (T : Shape) (L : TreeLaws T) (S : Scheme) (v : View) (a : ℕ) (h : a < T.lines) where
   pub counter_root : T.lines ≤ T.parent a → counter_of T S v a ≡ ok (v.register.roots (T.index a))
@@ -31,10 +33,6 @@ pub valid_is : (h : ℕ) (S : Scheme) (ls : List Line) (p c : ℕ) → node_vali
 unfolding node_valid all_within
 valid_is h S ls p c = refl
 
-pub root_word : (ws : List ℕ) (i : ℕ) → i < 8 → (register_in ws).roots i ≡ get_or ws (3 + i) 0
-unfolding register_in
-root_word ws i k = get_or-take 8 (drop 3 ws) i 0 k ∙ get_or-drop 3 ws i 0
-
 module _ (h : ℕ) (m : Meaning) (F : Fits h m) (S : Scheme) (t : Table) (a p i : ℕ) (k : a < lines_of h) (q : p ≡ 8 ^ h + a / 8) (j : i ≡ a % 8) where
   abbrev v : View
   v = view_in m t
@@ -45,10 +43,11 @@ module _ (h : ℕ) (m : Meaning) (F : Fits h m) (S : Scheme) (t : Table) (a p i 
   pub parent_above : a < p
   parent_above = omega (arith, q, L.parent_above a k)
 
-  pub from_root : lines_of h ≤ p → (ws : List ℕ) → ws ≡ m.register → ok (get_or ws (3 + i) 0) ≡ counter_of (eight_ary h) S v a
-  from_root n ws e =
-      ap (λ x. ok (get_or ws (3 + x) 0)) j
-      ∙ sym (counter_root (eight_ary h) L S v a k (subst (λ x. lines_of h ≤ x) q n) ∙ ap ok (root_word m.register (a % 8) (omega arith) ∙ ap (λ w. get_or w (3 + a % 8) 0) (sym e)))
+  pub from_root : lines_of h ≤ p → (r : Fields) → register_meant r ≡ register_in m.register → ok (get_or r.roots i 0) ≡ counter_of (eight_ary h) S v a
+  unfolding register_meant
+  from_root n r e =
+      ap (λ x. ok (get_or r.roots x 0)) j
+      ∙ ap (λ (g : Register). ok (g.roots (a % 8))) e ∙ sym (counter_root (eight_ary h) L S v a k (subst (λ x. lines_of h ≤ x) q n))
 
   module _ (n : p < lines_of h) where
     way : counter_of (eight_ary h) S v a ≡ held (t p) (a % 8) (in_line (eight_ary h) S (memory_in m.lines) p (a % 8) (counter_of (eight_ary h) S v p))

@@ -1,10 +1,13 @@
 -- The check before the steps of a call, as the code makes it.
-use Rattle.std.proofs.Common.{◌≡◌, ℕ, ◌<◌, ◌≤◌, Bool, true, false, cond, ◌&&◌, ◌||◌, eqb, leb, ◌⊎◌, length, None, Err, Option as Maybe, Result, ok_or, sym, refl, ap, ◌∙◌, subst, inl, inr, arith}
+use Rattle.machine.specs.declared.types.Register.{Register as Fields}
+use Rattle.machine.specs.Store.{Register}
+use Rattle.machine.specs.Encoding.{register_meant}
+use Rattle.std.proofs.Common.{List, ◌≡◌, ℕ, ◌<◌, ◌≤◌, Bool, true, false, cond, ◌&&◌, ◌||◌, eqb, leb, ◌⊎◌, length, None, Err, Option as Maybe, Result, ok_or, sym, refl, ap, ◌∙◌, subst, inl, inr, arith}
 use mathlib.Core.Option.{Option, some, none}
 use Rattle.std.proofs.lemmas.Bool.{le-leb, lt-leb, ne_eqb, cases_lt}
 use Rattle.board.specs.Meaning.{Meaning}
 use Rattle.machine.specs.Layout.{lines_of}
-use Rattle.machine.specs.Words.{row}
+use Rattle.machine.specs.Words.{register_in, row}
 use Rattle.machine.specs.Faults.{Fault, fault, too_few_lines, invalid_register}
 use Rattle.machine.specs.declared.layout.Layout.{Layout}
 use Rattle.controller.specs.Views.{Fits}
@@ -14,6 +17,11 @@ use Rattle.controller.proofs.Keeping.{check_ok}
 -- The fault of a layout that was not made.
 pub no_layout : {E : Type 0} (o : Maybe Layout) (e f : E) → o ≡ None → Err f ≡ ok_or o e → f ≡ e
 no_layout {E = E} o e f q p = let r : ◌≡◌ {A = Result Layout E} (Err f) (Err e) = p ∙ ap (λ (o : Maybe Layout). ok_or o e) q in cc
+
+-- The levels that a register's words say, by its fields.
+pub levels_word : (r : Fields) (ws : List ℕ) → register_meant r ≡ register_in ws → r.levels ≡ row ws 1
+unfolding register_meant register_in
+levels_word r ws e = ap (λ (g : Register). g.levels) e
 
 module _ (m : Meaning) (lv n : ℕ) where
   abbrev w : ℕ

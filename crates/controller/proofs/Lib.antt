@@ -5,7 +5,6 @@ mod RunEvents
 mod CounterSteps
 mod ReadSteps
 mod CommitParts
-mod JournalWords
 mod RegisterIs
 mod CommitWrites
 mod EvictSteps

@@ -60,14 +60,14 @@ module _ (S : Scheme) where
   said_as w e x y w' q = subst (λ (z : Answer). Keeps S w e z w') (sym q)
 
   -- Two events in a row.
-  pub two_events : (w w₁ w₂ : World) (e f : Happening) (x y z : Answer) → Keeps S w e x w₁ → Keeps S w₁ f y w₂ → z ≡ y → KeepsThrough S w ((e, x) ∷ (f, z) ∷ []) w₂
-  two_events w w₁ w₂ e f x y z a b q =
-      through_then w w₁ w₂ ((e, x) ∷ []) ((f, z) ∷ []) (through_one w e x w₁ a) (through_one w₁ f z w₂ (said_as w₁ f y z w₂ q b))
+  pub two_events : (w w₁ w₂ : World) (e f : Happening) (x y : Answer) → Keeps S w e x w₁ → Keeps S w₁ f y w₂ → KeepsThrough S w ((e, x) ∷ (f, y) ∷ []) w₂
+  two_events w w₁ w₂ e f x y a b =
+      through_then w w₁ w₂ ((e, x) ∷ []) ((f, y) ∷ []) (through_one w e x w₁ a) (through_one w₁ f y w₂ b)
 
   -- Three.
-  pub three_events : (w w₁ w₂ w₃ : World) (d e f : Happening) (v x y z : Answer) → Keeps S w d v w₁ → Keeps S w₁ e x w₂ → Keeps S w₂ f y w₃ → z ≡ y → KeepsThrough S w ((d, v) ∷ (e, x) ∷ (f, z) ∷ []) w₃
-  three_events w w₁ w₂ w₃ d e f v x y z a b c q =
-      through_then w w₁ w₃ ((d, v) ∷ []) ((e, x) ∷ (f, z) ∷ []) (through_one w d v w₁ a) (two_events w₁ w₂ w₃ e f x y z b c q)
+  pub three_events : (w w₁ w₂ w₃ : World) (d e f : Happening) (v x y : Answer) → Keeps S w d v w₁ → Keeps S w₁ e x w₂ → Keeps S w₂ f y w₃ → KeepsThrough S w ((d, v) ∷ (e, x) ∷ (f, y) ∷ []) w₃
+  three_events w w₁ w₂ w₃ d e f v x y a b c =
+      through_then w w₁ w₃ ((d, v) ∷ []) ((e, x) ∷ (f, y) ∷ []) (through_one w d v w₁ a) (two_events w₁ w₂ w₃ e f x y b c)
 
   -- A line put in place from outside, or one without a place.
   pub puts_one : (cap : ℕ) (w w' : World) (a : ℕ) (l : Stored) (b : Bool) → Tampers S w a (line_in l) b w' → PlaysOne S cap w (Tamper a l) (Put b) w'

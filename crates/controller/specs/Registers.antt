@@ -1,23 +1,34 @@
--- The register of a commit, word by word, and what the steps of a write ask of the slots and leave in them.
-use Rattle.std.specs.Prelude.{◌≡◌, ℕ, suc, ◌+◌, ◌<◌, ◌≤◌, cond, List, length, take, drop, replicate, Ok, Err, Result, nat_lt, slice_index, slice_index_or, slice_set}
+-- The register of a commit, and what the steps of a write ask of the slots and leave in them.
+use Rattle.std.specs.Prelude.{◌≡◌, ℕ, suc, ◌<◌, ◌≤◌, cond, List, replicate, Ok, Err, Result, nat_lt, slice_set}
 use Rattle.std.proofs.Math.Option.{Option, some, none}
-use Rattle.board.specs.declared.types.Line.{Line as Stored}
 use Rattle.suite.specs.Scheme.{Line}
 use Rattle.machine.specs.Layout.{Shape, update, counter_limit}
 use Rattle.machine.specs.Words.{no_address}
+use Rattle.machine.specs.Encoding.{register_meant}
+use Rattle.machine.specs.Store.{Register}
+use Rattle.machine.specs.declared.types.Register.{Register as Fields}
 use Rattle.machine.specs.Faults.{Fault, fault, Outcome, ok, err, at_limit}
 use Rattle.machine.specs.Plans.{Slot, Table, View, slot_for, raised}
 use Rattle.controller.specs.declared.types.LineFault.{LineFault}
 use Rattle.controller.specs.declared.chip.Chip.{Chip}
 
--- The register's words with the root's counter of line a, where the root is its parent.
-abbrev pub root_words : Shape → ℕ → ℕ → List ℕ → List ℕ
-root_words T a c ws = cond (nat_lt (T.parent a) T.lines) ws (slice_set ws (3 + T.index a) c)
+-- The register with the root's counter of line a, where the root is its parent.
+abbrev pub with_root : Shape → ℕ → ℕ → Register → Register
+with_root T a c g =
+    record {
+      formatted = g.formatted;
+      levels = g.levels;
+      suite = g.suite;
+      roots = cond (nat_lt (T.parent a) T.lines) g.roots (update g.roots (T.index a) c);
+      dirty_sum = g.dirty_sum;
+      journal = g.journal;
+      dirty = g.dirty;
+    }
 
--- The same words, 32 of them, as an answer that is never a fault.
-abbrev pub RegisterRaised : Shape → ℕ → ℕ → List ℕ → Result (List ℕ) LineFault → Type 0
-RegisterRaised T a c ws (Ok r) = (r ≡ root_words T a c ws) × (length ws ≡ 32)
-RegisterRaised T a c ws (Err f) = ⊥
+-- The same by name, as an answer that is never a fault.
+abbrev pub RegisterRaised : Shape → ℕ → ℕ → Register → Result Fields LineFault → Type 0
+RegisterRaised T a c g (Ok r) = register_meant r ≡ with_root T a c g
+RegisterRaised T a c g (Err f) = ⊥
 
 -- The slots with the counter of line a, where a node is its parent.
 abbrev pub raised_slots : Shape → (ℕ → Line) → Table → ℕ → ℕ → Table
@@ -41,18 +52,6 @@ RoomAt T a used t = T.parent a < T.lines → Room used (t (T.parent a))
 -- The parent's line, where it has no slot, has counters within the limit.
 abbrev pub SmallAt : Shape → ℕ → View → Type 0
 SmallAt T a v = T.parent a < T.lines → v.table (T.parent a) ≡ none → (k : ℕ) → k < 8 → (v.memory (T.parent a)).words k ≤ counter_limit
-
--- The words ws with a dirty sum, a journal and a dirty map.
-pub record Journaled (ws : List ℕ) (sum a : ℕ) (l : Stored) (dirty : List ℕ) (r : List ℕ) : Type 0 where
-  pub formatted : slice_index_or r 0 0 ≡ slice_index ws 0
-  pub levels : slice_index_or r 1 0 ≡ slice_index ws 1
-  pub suite : slice_index_or r 2 0 ≡ slice_index ws 2
-  pub roots : take 8 (drop 3 r) ≡ take 8 (drop 3 ws)
-  pub sum_is : slice_index_or r 11 0 ≡ sum
-  pub at : slice_index_or r 12 0 ≡ a
-  pub body : take 8 (drop 13 r) ≡ l.body
-  pub tag : slice_index_or r 21 0 ≡ l.tag
-  pub map : drop 22 r ≡ dirty
 
 -- Below the parent of node a, the slots are those of before without a's.
 abbrev pub LeftSlot : Shape → ℕ → Table → Option Fault → Table → Type 0

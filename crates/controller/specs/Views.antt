@@ -1,12 +1,12 @@
 -- How the definitions see what the code holds: faults, outcomes, and a board with the lines of its levels.
-use Rattle.std.specs.Prelude.{◌≡◌, ℕ, ◌<◌, ◌≤◌, Bool, ◌&&◌, List, length, Ok, Err, Result, slice_index_or}
+use Rattle.std.specs.Prelude.{true, false, ◌≡◌, ℕ, ◌<◌, ◌≤◌, Bool, ◌&&◌, List, length, Ok, Err, Result, slice_index_or}
 use Rattle.board.specs.Meaning.{Meaning}
 use Rattle.board.specs.declared.types.Line.{Line as Stored}
 use Rattle.board.specs.declared.types.BoardFault.{BoardFault}
 use Rattle.board.specs.declared.types.BoardFault.TheVariants.{Absent, PowerLost}
 use Rattle.suite.specs.Scheme.{Body, Line, Scheme, right}
 use Rattle.machine.specs.Layout.{Shape, lines_of}
-use Rattle.machine.specs.Words.{row, no_line, memory_in, register_in}
+use Rattle.machine.specs.Words.{line_in, row, no_line, memory_in, register_in}
 use Rattle.machine.specs.Faults.{fault, Outcome, ok, err, not_data, bad_size, too_few_lines, invalid_register, already_formatted, other_suite, too_many_dirty, corrupt, sum_mismatch, power_lost, at_limit}
 use Rattle.machine.specs.Faults.{Fault as Why}
 use Rattle.machine.specs.Plans.{Table, View}
@@ -99,3 +99,8 @@ pub record Fits (h : ℕ) (m : Meaning) : Type 0 where
 -- Whether a node's line has the right tag under the counter, and counters within the limit.
 abbrev pub node_line_valid : Scheme → ℕ → ℕ → Line → Bool
 node_line_valid S p c L = right S p c L && all_within L.words
+
+-- The line of node a among these lines, which is valid under the counter, or that it is corrupt.
+abbrev pub NodeLine : Scheme → ℕ → ℕ → List Stored → Result Stored TreeFault → Type 0
+NodeLine S a c ls (Ok l) = (l ≡ slice_index_or ls a no_line) × (node_line_valid S a c (line_in l) ≡ true)
+NodeLine S a c ls (Err f) = (f ≡ Corrupt a) × (node_line_valid S a c (line_in (slice_index_or ls a no_line)) ≡ false)

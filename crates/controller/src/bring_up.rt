@@ -1,7 +1,7 @@
-ghost use Rattle.std.specs.Prelude.{◌≡◌, true, Some as Just, ◌==◌};
+ghost use Rattle.std.specs.Prelude.{◌≡◌, true, Some as Just};
 ghost use Rattle.machine.specs.Words.{register_in, state_in};
 ghost use Rattle.machine.specs.Layout.{eight_ary};
-ghost use Rattle.machine.specs.Encoding.{journal_meant};
+ghost use Rattle.machine.specs.Encoding.{journal_meant, register_meant};
 ghost use Rattle.machine.specs.History.{journal_in, bring_up_check, bring_up as bringing_up};
 ghost use Rattle.controller.specs.Views.{Fits};
 ghost use Rattle.controller.specs.Runs.{ended};
@@ -20,29 +20,23 @@ use suite::suite::Suite;
 use tree::dirty_map::dirty_nodes;
 use tree::types::{Layout, Slots};
 
-// Whether a register names the suite.
-fn names<S: Suite>(register: &Register, suite: &S) -> bool
-    ensures { result ≡ ((S.Suite.scheme suite.now).number == register.now.suite) }
-{
-    S::NUMBER == register.suite
-}
-
 // The checks of bring-up before any write, in order: the layout, or why it is refused.
-fn check<B: Board, S: Suite>(board: &B, suite: &S, slots: u64) -> Result<Layout, Fault>
-    ensures { Checked (bring_up_check eight_ary slots (S.Suite.scheme suite.now).number (state_in (B.Board.meaning board.now))) slots (B.Board.meaning board.now) result }
+fn check<B: Board>(board: &B, register: &Register, slots: u64, number: u64) -> Result<Layout, Fault>
+    requires { register_meant register.now ≡ register_in (B.Board.meaning board.now).register }
+    ensures { Checked (bring_up_check eight_ary slots number (state_in (B.Board.meaning board.now))) slots (B.Board.meaning board.now) result }
 {
     if !(1..=64).contains(&slots) {
         return Err(Fault::BadSlots);
     }
-    let register = Register::decode(&board.read_register());
     if !register.is_valid() {
         return Err(Fault::InvalidRegister);
     }
+    // A valid register has levels from 1 to 4. `is_valid` answers a question: a layout as its answer would be no plainer.
     let layout = Layout::new(register.levels).ok_or(Fault::InvalidRegister)?;
     if layout.lines() > board.count() {
         return Err(Fault::TooFewLines);
     }
-    if !names(&register, suite) {
+    if number != register.suite {
         return Err(Fault::OtherSuite);
     }
     if u64::from(dirty_nodes(&register.dirty)) > slots {
@@ -72,11 +66,11 @@ fn write_back<B: Board>(
 fn open_chip<B: Board, S: Suite>(board: &mut B, suite: &S, slots: u64) -> Result<Chip, Fault>
     ensures { Brought (S.Suite.scheme suite.now) slots (B.Board.meaning board.old) result (B.Board.meaning board.new) }
 {
-    let layout = check(board, suite, slots)?;
     let register = Register::decode(&board.read_register());
+    let layout = check(board, &register, slots, S::NUMBER)?;
     write_back(board, layout, &register.journal)?;
     Ok(Chip {
-        slots: recover(board, suite, layout)?,
+        slots: recover(board, suite, layout, &register)?,
         capacity: slots as usize,
         latched: None,
     })

@@ -7,15 +7,15 @@ ghost use Rattle.machine.specs.Layouts.{shape_in};
 ghost use Rattle.tree.specs.SlotTable.{table_in};
 ghost use Rattle.controller.specs.Views.{shape_of, view_of, view_in, outcome_in, Fits};
 ghost use Rattle.controller.specs.Runs.{ended, Went};
-ghost use Rattle.controller.specs.Registers.{Journaled, raised_slots, next_counter, RoomAt, SmallAt, RegisterRaised, Rest};
+ghost use Rattle.controller.specs.Registers.{raised_slots, next_counter, RoomAt, SmallAt, RegisterRaised, Rest};
 
+use crate::counters::nonce;
 use crate::faults::{at_line, line_of};
 use crate::open::Open;
 use crate::types::{LineFault, TreeFault};
-use crate::view::View;
 use board::board::Board;
 use board::types::Line;
-use suite::nonce::Nonce;
+use machine::types::{Journal, Register};
 use suite::sealing::{seal_data, seal_node};
 use suite::suite::Suite;
 use tree::counters::LIMIT;
@@ -31,51 +31,37 @@ pub(crate) fn sealed_line<S: Suite>(
 ) -> Line
     ensures { line_in result ≡ line_at (shape_in layout) (S.Suite.scheme suite.now) at counter (row words.now) }
 {
-    let nonce = Nonce {
-        at: at as u64,
-        counter,
-    };
+    let nonce = nonce(at, counter);
     if at < layout.data_lines() {
         return seal_data(suite, nonce, words);
     }
     seal_node(suite, nonce, words)
 }
 
-// The register's words with a dirty sum, a journal and a dirty map.
-fn journaled(mut words: [u64; 32], sum: u64, at: usize, line: &Line, map: &[u64; 10]) -> [u64; 32]
-    ensures { Journaled words sum at line.now map.now result }
-{
-    words[11] = sum;
-    words[12] = at as u64;
-    words[13..21].copy_from_slice(&line.body);
-    words[21] = line.tag;
-    words[22..32].copy_from_slice(map);
-    words
-}
-
-// Raises the counter of line `at`: in its parent's slot, or in the register's words, which come back.
+// Raises the counter of line `at`: in its parent's slot, or in the register, which comes back.
+// It takes the board and the slots apart, since only the slots change.
 fn raise_at<B: Board>(
     board: &B,
     slots: &mut Slots,
     at: usize,
     counter: u64,
-) -> Result<[u64; 32], LineFault>
+) -> Result<Register, LineFault>
     requires place { (Fits slots.old.layout.levels (B.Board.meaning board.now)) × ((at < (shape_in slots.old.layout).lines) × (counter ≤ counter_limit)) }
     requires room { (RoomAt (shape_in slots.old.layout) at slots.old.used (table_in slots.old)) × (SmallAt (shape_in slots.old.layout) at (view_in (B.Board.meaning board.now) (table_in slots.old))) }
     ensures table { table_in slots.new ≡ raised_slots (shape_in slots.old.layout) (memory_in (B.Board.meaning board.now).lines) (table_in slots.old) at counter }
-    ensures words { RegisterRaised (shape_in slots.old.layout) at counter (B.Board.meaning board.now).register result }
+    ensures register { RegisterRaised (shape_in slots.old.layout) at counter (register_in (B.Board.meaning board.now).register) result }
     ensures layout { slots.new.layout ≡ slots.old.layout }
 {
     let layout = slots.layout();
-    let mut words = board.read_register();
+    let mut register = Register::decode(&board.read_register());
     let parent = layout.parent(at);
     if parent >= layout.lines() {
-        words[3 + layout.index(at)] = counter;
-        return Ok(words);
+        register.roots[layout.index(at)] = counter;
+        return Ok(register);
     }
     let fresh = line_of(board, parent)?.body;
     let _ = slots.raise(parent, layout.index(at), counter, &fresh);
-    Ok(words)
+    Ok(register)
 }
 
 impl<B: Board, S: Suite> Open<B, S> {
@@ -84,13 +70,7 @@ impl<B: Board, S: Suite> Open<B, S> {
         requires { (Fits self.now.chip.slots.layout.levels (B.Board.meaning self.now.board)) × (at < (shape_of self.now.chip).lines) }
         ensures { outcome_in result ≡ next_counter at (counter_of (shape_of self.now.chip) (S.Suite.scheme self.now.suite) (view_of (B.Board.meaning self.now.board) self.now.chip) at) }
     {
-        let view = View {
-            board: &self.board,
-            suite: &self.suite,
-            slots: &self.chip.slots,
-            layout: self.chip.slots.layout(),
-        };
-        let counter = view.counter_of(at)?;
+        let counter = self.view(self.chip.slots.layout()).counter_of(at)?;
         if counter >= LIMIT {
             return Err(TreeFault::AtLimit(at));
         }
@@ -116,17 +96,18 @@ impl<B: Board, S: Suite> Open<B, S> {
     {
         let line = sealed_line(&self.suite, self.chip.slots.layout(), at, words, counter);
         let raised = raise_at(&self.board, &mut self.chip.slots, at, counter)?;
-        let register = journaled(
-            raised,
-            self.chip.slots.sum(),
-            at,
-            &line,
-            &self.chip.slots.dirty_map(),
-        );
-        at_line(self.board.write_register(register), at)?;
+        let register = Register {
+            dirty_sum: self.chip.slots.sum(),
+            journal: Some(Journal {
+                at: at as u64,
+                line,
+            }),
+            dirty: self.chip.slots.dirty_map(),
+            ..raised
+        };
+        at_line(self.board.write_register(register.encode()), at)?;
         *commits += 1;
-        at_line(self.board.write_line(at, line), at)?;
-        Ok(())
+        Ok(at_line(self.board.write_line(at, line), at)?)
     }
 
     // Commits a body at line `at` under its next counter.

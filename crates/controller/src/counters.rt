@@ -3,17 +3,28 @@ ghost use Rattle.machine.specs.Plans.{counter_of, read_call};
 ghost use Rattle.machine.specs.Words.{line_in};
 ghost use Rattle.machine.specs.Layouts.{shape_in};
 ghost use Rattle.tree.specs.SlotTable.{table_in};
-ghost use Rattle.controller.specs.Views.{view_in, outcome_in, body_in, node_line_valid};
+ghost use Rattle.controller.specs.Views.{view_in, outcome_in, body_in, node_line_valid, NodeLine};
 
 use crate::faults::line_of;
 use crate::types::TreeFault;
 use crate::view::View;
 use board::board::Board;
 use board::types::Line;
+use machine::types::Register;
 use suite::nonce::Nonce;
 use suite::sealing::{is_right, open_data};
 use suite::suite::Suite;
 use tree::counters::within_limit;
+
+// The nonce of an address and a counter. The two go apart up to here, where the address is a place among the lines too.
+pub(crate) fn nonce(at: usize, counter: u64) -> Nonce
+    ensures { result ≡ record { at = at; counter = counter } }
+{
+    Nonce {
+        at: at as u64,
+        counter,
+    }
+}
 
 // Whether a node's line has the right tag, and counters within the limit.
 pub(crate) fn node_valid<S: Suite>(suite: &S, nonce: Nonce, line: &Line) -> bool
@@ -23,6 +34,19 @@ pub(crate) fn node_valid<S: Suite>(suite: &S, nonce: Nonce, line: &Line) -> bool
 }
 
 impl<B: Board, S: Suite> View<'_, B, S> {
+    // The line of node `at`, which must be valid under this counter.
+    pub(crate) fn node_line(&self, at: usize, counter: u64) -> Result<Line, TreeFault>
+        requires { at < (shape_in self.now.layout).lines }
+        ensures { NodeLine (S.Suite.scheme self.now.suite.now) at counter (B.Board.meaning self.now.board.now).lines result }
+    {
+        let line = line_of(self.board, at)?;
+        let nonce = nonce(at, counter);
+        if !node_valid(self.suite, nonce, &line) {
+            return Err(TreeFault::Corrupt(at));
+        }
+        Ok(line)
+    }
+
     // The current counter of line `at`: in the root, in a slot, or in the parent's line once the way down to it is checked.
     pub(crate) fn counter_of(&self, at: usize) -> Result<u64, TreeFault>
         requires { at < (shape_in self.now.layout).lines }
@@ -31,20 +55,13 @@ impl<B: Board, S: Suite> View<'_, B, S> {
         let parent = self.layout.parent(at);
         let index = self.layout.index(at);
         if parent >= self.layout.lines() {
-            return Ok(self.board.read_register()[3 + index]);
+            return Ok(Register::decode(&self.board.read_register()).roots[index]);
         }
         if let Some(counter) = self.slots.counter(parent, index) {
             return Ok(counter);
         }
         let counter = self.counter_of(parent)?;
-        let line = line_of(self.board, parent)?;
-        let nonce = Nonce {
-            at: parent as u64,
-            counter,
-        };
-        if !node_valid(self.suite, nonce, &line) {
-            return Err(TreeFault::Corrupt(parent));
-        }
+        let line = self.node_line(parent, counter)?;
         Ok(line.body[index])
     }
 
@@ -55,10 +72,7 @@ impl<B: Board, S: Suite> View<'_, B, S> {
     {
         let counter = self.counter_of(at)?;
         let line = line_of(self.board, at)?;
-        let nonce = Nonce {
-            at: at as u64,
-            counter,
-        };
+        let nonce = nonce(at, counter);
         open_data(self.suite, nonce, &line).ok_or(TreeFault::Corrupt(at))
     }
 }

@@ -17,7 +17,7 @@ pub enum Event {
     Tamper(usize, Line),
 }
 
-// What came of it.
+// What came of an event.
 #[derive(Clone, Copy)]
 pub enum Reply {
     Body([u64; 8]),
@@ -25,6 +25,6 @@ pub enum Reply {
     Done(u64),
     // refused, with the commits made
     Refused(Fault, u64),
-    // whether the line put in place from outside has a place
+    // whether the line from outside was put in place: if not, the board has no such line
     Put(bool),
 }

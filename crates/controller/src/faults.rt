@@ -104,7 +104,7 @@ impl TreeFault {
 }
 
 impl Fault {
-    // The number that the fault is reported by, from 1 to 11; the kinds are the variants.
+    // The number that is printed for the fault, from 1 to 11: the variants are its kinds.
     pub fn cause(&self) -> u64
         ensures { result ≡ number (fault_of self.now).cause }
     {
@@ -167,5 +167,5 @@ pub(crate) fn line_of<B: Board>(board: &B, at: usize) -> Result<Line, LineFault>
 pub(crate) fn answer(r: Result<(), TreeFault>) -> Result<(), Fault>
     ensures { result ≡ controller_says r }
 {
-    Ok(r?)
+    r.map_err(Fault::from)
 }

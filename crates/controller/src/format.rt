@@ -78,7 +78,8 @@ impl<B: Board> Cold<B> {
         if layout.lines() > self.board.count() {
             return Err(Fault::TooFewLines);
         }
-        if self.board.read_register()[0] != 0 {
+        let register = Register::decode(&self.board.read_register());
+        if register.formatted != 0 {
             return Err(Fault::AlreadyFormatted);
         }
         answer(write_format(&mut self.board, suite, layout))

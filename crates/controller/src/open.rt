@@ -2,6 +2,7 @@ ghost use Rattle.std.specs.Prelude.{◌≡◌};
 ghost use Rattle.suite.specs.Scheme.{Scheme};
 ghost use Rattle.machine.specs.Words.{row};
 ghost use Rattle.machine.specs.History.{read as reading, write as writing, flush as flushing, shut_down, nothing};
+ghost use Rattle.controller.specs.Views.{Fits};
 ghost use Rattle.controller.specs.Worlds.{world_in, cold_in, body_answer, read_in, report_by, report_in, Keeps, KeepsLatched, Cleared, LayoutFound, Ready, Does, write_plan, flush_plan, read_of};
 
 use crate::chip::Chip;
@@ -11,10 +12,13 @@ use crate::latch::{fit_slots, latch};
 use crate::types::{Fault, Report};
 use crate::view::View;
 use board::board::Board;
+use machine::types::Register;
 use suite::suite::Suite;
 use tree::types::Layout;
 
 // A board that was brought up, with the chip beside it.
+// No ghost field says that the board has the lines of the chip's layout: a refused bring-up leaves one that may not, so each step asks for it.
+// An open board is not dropped: it is given up by `shut_down`.
 pub struct Open<B: Board, S: Suite> {
     pub(crate) board: B,
     pub(crate) suite: S,
@@ -33,7 +37,8 @@ impl<B: Board, S: Suite> Open<B, S> {
     fn layout(&self) -> Result<Layout, Fault>
         ensures { LayoutFound (B.Board.meaning self.now.board) self.now.chip.slots.layout.levels self.now.chip.slots.used result }
     {
-        let layout = Layout::new(self.board.read_register()[1]).ok_or(Fault::InvalidRegister)?;
+        let register = Register::decode(&self.board.read_register());
+        let layout = Layout::new(register.levels).ok_or(Fault::InvalidRegister)?;
         if layout.lines() > self.board.count() {
             return Err(Fault::TooFewLines);
         }
@@ -54,6 +59,22 @@ impl<B: Board, S: Suite> Open<B, S> {
         }
     }
 
+    // What the checks of lines and counters work on, under this layout.
+    pub(crate) fn view(&self, layout: Layout) -> View<'_, B, S>
+        requires { Fits layout.levels (B.Board.meaning self.now.board) }
+        ensures board { result.board.now ≡ self.now.board }
+        ensures suite { result.suite.now ≡ self.now.suite }
+        ensures slots { result.slots.now ≡ self.now.chip.slots }
+        ensures layout { result.layout ≡ layout }
+    {
+        View {
+            board: &self.board,
+            suite: &self.suite,
+            slots: &self.chip.slots,
+            layout,
+        }
+    }
+
     // The body of data line `at`.
     fn body_of(&self, at: usize) -> Result<[u64; 8], Fault>
         ensures { body_answer result ≡ read_of (S.Suite.scheme self.now.suite) (B.Board.meaning self.now.board) self.now.chip at }
@@ -62,16 +83,12 @@ impl<B: Board, S: Suite> Open<B, S> {
         if at >= layout.data_lines() {
             return Err(Fault::NotData(at));
         }
-        let view = View {
-            board: &self.board,
-            suite: &self.suite,
-            slots: &self.chip.slots,
-            layout,
-        };
+        let view = self.view(layout);
         Ok(view.data_body(at)?)
     }
 
     // Reads the body of data line `at` into `body`, which a refusal leaves as zeros.
+    // The body goes into the caller's words, and not into the result, since what a refusal leaves in them is promised too.
     pub fn read(&self, at: usize, body: &mut [u64; 8]) -> Result<(), Fault>
         ensures law { Keeps (S.Suite.scheme self.now.suite) (world_in (B.Board.meaning self.now.board) self.now.chip) (reading at) (read_in result body.new) (world_in (B.Board.meaning self.now.board) self.now.chip) }
         ensures others { KeepsLatched self.now.chip.latched (world_in (B.Board.meaning self.now.board) self.now.chip) (reading at) (read_in result body.new) (world_in (B.Board.meaning self.now.board) self.now.chip) }
@@ -112,7 +129,7 @@ impl<B: Board, S: Suite> Open<B, S> {
     }
 
     // Evicts every dirty node, counting the commits made.
-    // It and the write differ in their steps alone. One function over a closure would be no plainer: its contract would have to name the steps' plan and promise.
+    // The write has other steps, and refuses an address that is no data line. One function over a closure would be no plainer: its contract would have to name the steps' plan and promise.
     fn flush_counted(&mut self, commits: &mut u64) -> Result<(), Fault>
         requires { commits.old ≡ 0 }
         ensures does { Does (flush_plan (S.Suite.scheme self.old.suite) (B.Board.meaning self.old.board) self.old.chip) (B.Board.meaning self.old.board) self.old.chip (report_by result commits.new) (B.Board.meaning self.new.board) self.new.chip }
@@ -132,12 +149,9 @@ impl<B: Board, S: Suite> Open<B, S> {
         ensures does { Does (flush_plan (S.Suite.scheme self.old.suite) (B.Board.meaning self.old.board) self.old.chip) (B.Board.meaning self.old.board) self.old.chip (report_in result) (B.Board.meaning self.new.board) self.new.chip }
         ensures suite { self.new.suite ≡ self.old.suite }
     {
-        let mut made = 0;
-        let outcome = self.flush_counted(&mut made);
-        Report {
-            commits: made,
-            outcome,
-        }
+        let mut commits = 0;
+        let outcome = self.flush_counted(&mut commits);
+        Report { commits, outcome }
     }
 }
 

@@ -15,6 +15,7 @@ use board::types::Line;
 use suite::suite::Suite;
 
 // Puts a line in place past power; false where the board has no such line.
+// It and `tamper` answer with a `bool`: there is one refusal alone, and nothing more to say of it.
 fn put_line<B: Tamper>(board: &mut B, at: usize, line: Line) -> bool
     ensures { LinePut (B.Board.meaning board.old) at line result (B.Board.meaning board.new) }
 {

@@ -1,12 +1,13 @@
 ghost use Rattle.std.specs.Prelude.{◌≡◌, ◌-◌, ◌<◌, ◌≤◌, ◌==◌};
 ghost use Rattle.machine.specs.Words.{row, line_in, memory_in, register_in};
+ghost use Rattle.machine.specs.Encoding.{register_meant};
 ghost use Rattle.machine.specs.Plans.{map_count, sum_of, restore_node, restore as restore_plan, recover as recover_plan};
 ghost use Rattle.machine.specs.Layouts.{shape_in};
 ghost use Rattle.tree.specs.SlotTable.{table_in, no_slots, map_in};
 ghost use Rattle.controller.specs.Views.{view_in, Fits};
 ghost use Rattle.controller.specs.Restores.{child_line_valid, ChildRestored, slot_outcome, from_children, SlotOf, map_below, Restores, Recovers};
 
-use crate::counters::node_valid;
+use crate::counters::{node_valid, nonce};
 use crate::faults::line_of;
 use crate::types::TreeFault;
 use crate::view::View;
@@ -14,7 +15,6 @@ use board::board::Board;
 use board::types::Line;
 use machine::counter::restore_counter;
 use machine::types::Register;
-use suite::nonce::Nonce;
 use suite::sealing::is_right;
 use suite::suite::Suite;
 use tree::dirty_map::highest_below;
@@ -33,10 +33,7 @@ impl<B: Board, S: Suite> View<'_, B, S> {
     fn child_valid(&self, at: usize, line: &Line, counter: u64) -> bool
         ensures { result ≡ child_line_valid (S.Suite.scheme self.now.suite.now) (shape_in self.now.layout) at counter (line_in line.now) }
     {
-        let nonce = Nonce {
-            at: at as u64,
-            counter,
-        };
+        let nonce = nonce(at, counter);
         if at < self.layout.data_lines() {
             return is_right(self.suite, nonce, line);
         }
@@ -84,14 +81,7 @@ impl<B: Board, S: Suite> View<'_, B, S> {
         ensures slot { SlotOf at result }
     {
         let counter = self.counter_of(at)?;
-        let line = line_of(self.board, at)?;
-        let nonce = Nonce {
-            at: at as u64,
-            counter,
-        };
-        if !node_valid(self.suite, nonce, &line) {
-            return Err(TreeFault::Corrupt(at));
-        }
+        let line = self.node_line(at, counter)?;
         self.slot_from(at, &line.body)
     }
 }
@@ -139,11 +129,13 @@ pub(crate) fn recover<B: Board, S: Suite>(
     board: &B,
     suite: &S,
     layout: Layout,
+    register: &Register,
 ) -> Result<Slots, TreeFault>
-    requires { (Fits layout.levels (B.Board.meaning board.now)) × (map_count (shape_in layout) (register_in (B.Board.meaning board.now).register) ≤ 64) }
+    requires fits { Fits layout.levels (B.Board.meaning board.now) }
+    requires few { map_count (shape_in layout) (register_in (B.Board.meaning board.now).register) ≤ 64 }
+    requires own { register_meant register.now ≡ register_in (B.Board.meaning board.now).register }
     ensures { Recovers (recover_plan (shape_in layout) (S.Suite.scheme suite.now) (memory_in (B.Board.meaning board.now).lines) (register_in (B.Board.meaning board.now).register)) layout result }
 {
-    let register = Register::decode(&board.read_register());
     let mut slots = Slots::new(layout);
     restore(board, suite, &mut slots, layout, &register.dirty)?;
     if !adds_up(&slots, register.dirty_sum) {

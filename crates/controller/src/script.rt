@@ -1,13 +1,17 @@
 // Scripts: many events in a row on one board that a program can also reach from outside.
-ghost use Rattle.std.specs.Prelude.{◌≡◌, ℕ, ◌<◌, min, length, take, drop, slice_index_or};
+ghost use Rattle.std.specs.Prelude.{◌≡◌, ℕ, min, length, take, drop};
 ghost use Rattle.board.specs.Meaning.{endless};
-ghost use Rattle.controller.specs.Worlds.{world_in, read_in, report_in};
+ghost use Rattle.machine.specs.History.{bring_up as bringing_up};
+ghost use Rattle.controller.specs.Worlds.{world_in, cold_in, read_in, report_in, Keeps};
+ghost use Rattle.controller.specs.BringUps.{BringsUp};
 ghost use Rattle.controller.specs.Scripts.{answer_in, PlaysOne, DoesOne, Plays, DoesAll};
 ghost use Rattle.controller.specs.declared.event.Event.TheVariants.{Read as Reading, Write as Writing, Flush as Flushing, Restart, Recharge as Recharging, Tamper as Tampering};
 
+use crate::cold::Cold;
 use crate::event::{Event, Reply};
 use crate::open::Open;
 use crate::types::{Fault, Report};
+use board::board::Board;
 use board::tamper::{Recharge, Tamper};
 use board::types::Line;
 use suite::suite::Suite;
@@ -34,6 +38,21 @@ fn read_reply(outcome: Result<(), Fault>, body: &[u64; 8]) -> Reply
     }
 }
 
+// Brings a board up, and answers as a call that makes no commit.
+fn brought_up<B: Board, S: Suite>(cold: Cold<B>, suite: S, slots: u64) -> (Open<B, S>, Reply)
+    ensures law { Keeps (S.Suite.scheme suite) (cold_in (B.Board.meaning cold.board)) (bringing_up slots (S.Suite.scheme suite).number) (answer_in result.1) (world_in (B.Board.meaning result.0.board) result.0.chip) }
+    ensures does { BringsUp (S.Suite.scheme suite) slots (B.Board.meaning cold.board) (answer_in result.1) (B.Board.meaning result.0.board) (world_in (B.Board.meaning result.0.board) result.0.chip) }
+    ensures suite { result.0.suite ≡ suite }
+{
+    let (open, outcome) = cold.bring_up(suite, slots);
+    let report = Report {
+        commits: 0,
+        outcome,
+    };
+    (open, Reply::from(report))
+}
+
+// The clauses of each event are those of `run`, a public promise whose words stay; a record of them for the private calls alone would say them twice.
 impl<B: Tamper + Recharge, S: Suite + Copy> Open<B, S> {
     // Reads the body at an address.
     fn play_read(self, at: usize) -> (Open<B, S>, Reply)
@@ -73,14 +92,7 @@ impl<B: Tamper + Recharge, S: Suite + Copy> Open<B, S> {
         ensures suite { result.0.suite ≡ self.suite }
     {
         let suite = self.suite;
-        let (next, outcome) = self.shut_down().bring_up(suite, slots);
-        (
-            next,
-            Reply::from(Report {
-                commits: 0,
-                outcome,
-            }),
-        )
+        brought_up(self.shut_down(), suite, slots)
     }
 
     // Shuts the board down, sets its power anew and brings it up again.
@@ -92,14 +104,7 @@ impl<B: Tamper + Recharge, S: Suite + Copy> Open<B, S> {
         let suite = self.suite;
         let mut cold = self.shut_down();
         cold.recharge(left);
-        let (next, outcome) = cold.bring_up(suite, slots);
-        (
-            next,
-            Reply::from(Report {
-                commits: 0,
-                outcome,
-            }),
-        )
+        brought_up(cold, suite, slots)
     }
 
     // Puts a line in place from outside.
@@ -135,6 +140,7 @@ impl<B: Tamper + Recharge, S: Suite + Copy> Open<B, S> {
         ensures rest { drop (length events.now) replies.new ≡ drop (length events.now) replies.old }
         ensures suite { result.suite ≡ self.suite }
     {
+        // The replies are put in place by index: a proof knows nothing of them after a `zip` with their `iter_mut`, and with `enumerate` in its place the events would have the index.
         let mut current = self;
         let played = &events[..events.len().min(replies.len())];
         for (i, event) in played.iter().enumerate() {

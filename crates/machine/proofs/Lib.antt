@@ -32,6 +32,7 @@ pub mod EightAry
 pub mod Theorem
 pub mod Example
 pub mod WorkedCases
+pub mod CutsCompose
 pub mod SlotTable
 pub mod Encodings
 pub mod ValidParts

@@ -1,4 +1,4 @@
-// The largest counter, and restoring a counter from a stored one and ten low bits.
+// Counters: their limit, and restoring one from a stored counter and ten low bits.
 ghost use Rattle.std.specs.Prelude.{◌≡◌, ℕ, ◌+◌, ◌%◌, ◌<◌, ◌≤◌, Some, MatchOption};
 ghost use Rattle.machine.specs.Layout.{restored, counter_limit, all_within};
 ghost use Rattle.machine.specs.Words.{row};
@@ -24,8 +24,5 @@ pub fn restore_counter(stored: u64, tag: u64) -> Option<u64>
         return None;
     }
     let counter = stored + (tag % 1024 + 1024 - stored % 1024) % 1024;
-    if counter > LIMIT {
-        return None;
-    }
-    Some(counter)
+    (counter <= LIMIT).then_some(counter)
 }

@@ -1,4 +1,3 @@
-// The layout of a board's lines, from the number of levels.
 ghost use Rattle.std.specs.Prelude.{ℕ, ◌≤◌};
 
 // The layout of a board's lines: data lines first, then the nodes, eight counters to a node.

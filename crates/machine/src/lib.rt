@@ -1,4 +1,4 @@
-// The controller by its definitions, what holds in every history of a board, and the register's words.
+// The controller by its definitions and what holds in every history of a board; the register's words, the layout of the lines and the counters.
 #![tactic(auto)]
 
 pub mod counter;

@@ -14,9 +14,7 @@ fn part<const N: usize>(words: &[u64; 32], at: usize) -> [u64; N]
     requires { at + N ≤ 32 }
     ensures { result ≡ take N (drop at words.now) }
 {
-    let mut part = [0; N];
-    part.copy_from_slice(&words[at..at + N]);
-    part
+    *words[at..].first_chunk().unwrap()
 }
 
 // Puts a part of the words in its place.
@@ -96,7 +94,7 @@ impl Register {
     }
 }
 
-// `From` carries one relation, so `decode` and `encode` stay, with all that they promise.
+// `decode` and `encode` stay beside the two conversions: each gives its facts by name, and a conversion gives one.
 impl From<&[u64; 32]> for Register {
     ghost from_gives = { λ words register. register ≡ decoded words.now };
 

@@ -8,6 +8,10 @@ use Rattle.script.specs.Script.{Limit, One, letter_of, Arguments, Lettered, Step
 use Rattle.script.specs.declared.types.Step.{Step}
 use Rattle.script.specs.declared.types.Step.TheVariants.{Read, Write, Flush, Restart, Recharge, Copy, Put}
 
+pub no_limit : (t : List ℕ) → (t ≡ codes "none" → ⊥) → ((n : ℕ) → Decimal t n → ⊥) → (l : Option ℕ) → Limit t l → ⊥
+no_limit t other bad (Some n) h = bad n h
+no_limit t other bad None h = other h
+
 -- how many numbers stand behind a letter: 3 for what is no number
 abbrev pub arity : ℕ → ℕ
 arity c = cond (eqb c 114) 1 (cond (eqb c 119) 2 (cond (eqb c 115) 0 (cond (eqb c 100) 0 (cond (eqb c 107) 1 (cond (eqb c 109) 1 3)))))

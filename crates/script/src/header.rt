@@ -1,7 +1,7 @@
 ghost use Rattle.std.specs.Prelude.{◌≡◌, codes, ◌==◌};
 ghost use Rattle.std.specs.Option.{option_map};
 ghost use Rattle.std.specs.List.{find};
-ghost use Rattle.text.specs.Spelling.{Reads, After, Decimal, Keys, lines_of};
+ghost use Rattle.text.specs.Spelling.{Reads, After, lines_of};
 ghost use Rattle.std.specs.Fn.{FnReturnsAt};
 ghost use Rattle.script.specs.Script.{Limit, SuiteLine, LineRead, HeaderRead};
 

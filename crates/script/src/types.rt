@@ -1,6 +1,6 @@
 use text::types::KeyPair;
 
-// What a script sets up before its steps, with a suite of some kinds. A fuse of none never burns out.
+// What a script sets up before its steps. K is what the caller names its suites by. A fuse of none never burns out.
 #[derive(Clone, Copy)]
 pub struct Header<K> {
     pub levels: u64,
@@ -28,7 +28,8 @@ pub enum Step {
     Put(u64),
 }
 
-// What is printed of a step.
+// What is printed of a step. Results and layers are numbers, as the columns are printed: this crate has no type of
+// faults.
 #[derive(Clone, Copy)]
 pub struct Row {
     pub step: u64,

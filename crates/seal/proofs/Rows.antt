@@ -1,8 +1,9 @@
 -- Rows printed one after another.
 use Rattle.std.proofs.Common.{◌≡◌, ℕ, ◌+◌, List, [], ◌∷◌, ◌++◌, Some, sym, refl, ap, ◌∙◌, subst, append_assoc, append-nil}
 use Rattle.suite.specs.Scheme.{Scheme}
+use Rattle.text.specs.Writing.{Adds}
 use Rattle.seal.specs.Items.{ItemLine}
-use Rattle.seal.specs.Answered.{Answered, answer_text, Rows, Adds}
+use Rattle.seal.specs.Answered.{Answered, answer_text, Rows}
 use Rattle.seal.specs.declared.types.Item.{Item}
 use Rattle.seal.specs.declared.types.Answer.{Answer}
 

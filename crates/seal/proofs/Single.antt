@@ -6,12 +6,13 @@ use Rattle.board.specs.declared.types.Line.{Line as BoardLine}
 use Rattle.suite.specs.Scheme.{Line, Scheme}
 use Rattle.suite.specs.Words.{row as words_in, line_in}
 use Rattle.text.specs.Spelling.{Reads, Unambiguous, Decimal, Numbers, Keys}
+use Rattle.text.specs.Writing.{bad}
 use Rattle.text.proofs.Single.{decimal_once, numbers_once, keys_once, after_once}
 use Rattle.suite.specs.Kinds.{number_of}
 use Rattle.suite.specs.declared.kind.SuiteKind.{SuiteKind}
 use Rattle.suite.specs.declared.kind.SuiteKind.TheVariants.{Sip, Cmac}
 use Rattle.seal.specs.Items.{letter, Asked, ItemLine, SuiteLine, KeyLine}
-use Rattle.seal.specs.Answered.{Answered, answer_text, bad, Rows, scheme_of, Keyed, Printed, Single}
+use Rattle.seal.specs.Answered.{Answered, answer_text, Rows, scheme_of, Keyed, Printed, Single}
 use Rattle.seal.specs.declared.types.Kind.{Kind}
 use Rattle.seal.specs.declared.types.Kind.TheVariants.{Data, Node}
 use Rattle.seal.specs.declared.types.Item.{Item}

@@ -8,7 +8,7 @@ use Rattle.suite.specs.declared.kind.SuiteKind.{SuiteKind}
 use Rattle.suite.specs.declared.nonce.Nonce.{Nonce}
 use Rattle.std.specs.Borrow.{Bor}
 use Rattle.text.specs.Spelling.{Reads, lines_of}
-use Rattle.text.specs.Writing.{row}
+use Rattle.text.specs.Writing.{row, bad}
 use Rattle.text.specs.declared.types.KeyPair.{KeyPair}
 use Rattle.text.specs.declared.lines.BadLine.{BadLine}
 use Rattle.seal.specs.Items.{ItemLine, SuiteLine, KeyLine}
@@ -44,10 +44,6 @@ answer_text (Sealed l) = row l.body ++ (32 ∷ decimal l.tag)
 answer_text (Opened ws) = row ws
 answer_text Corrupt = codes "corrupt"
 
--- What is printed at an unreadable line, by its number.
-abbrev pub bad : ℕ → List ℕ
-bad n = codes "bad=" ++ (decimal n ++ (10 ∷ []))
-
 -- What is printed for the lines from number n on: a row for each item, up to the first unreadable line.
 abbrev pub Rows : Scheme → ℕ → List (List ℕ) → List ℕ → Type 0
 Rows S n [] out = out ≡ []
@@ -76,7 +72,3 @@ Single P = (out other : List ℕ) → P out → P other → out ≡ other
 abbrev pub HeaderRead : List (List ℕ) → Result (SuiteKind × KeyPair × Bor (List ℕ)) BadLine → Type 0
 HeaderRead ls (Ok h) = (out : List ℕ) → Rows (scheme_of h.0 h.1) 3 (lines_of h.2.now) out → Printed ls out
 HeaderRead ls (Err e) = Printed ls (bad e.number)
-
--- Bytes of this kind were added to a text.
-abbrev pub Adds : (List ℕ → Type 0) → List ℕ → List ℕ → Type 0
-Adds P before after = (added : List ℕ) × (after ≡ before ++ added) × P added

@@ -32,6 +32,7 @@ fn read_head<'a>(text: &'a [u8], word: &[u8]) -> Option<(Kind, &'a [u8])>
 fn sealing(kind: Kind, words: &[u64; 10]) -> Item
     ensures { result ≡ Item.Seal kind (nonce_of words.now) (take 8 (drop 2 words.now)) }
 {
+    // A rest pattern, `[at, counter, body @ ..]`, was tried: it gets no proof. `opening` is alike.
     let [at, counter, w0, w1, w2, w3, w4, w5, w6, w7] = *words;
     Item::Seal {
         kind,

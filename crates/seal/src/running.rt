@@ -1,6 +1,7 @@
 ghost use Rattle.std.specs.Prelude.{IfOk, string_bytes, OnOk};
 ghost use Rattle.text.specs.Spelling.{lines_of};
-ghost use Rattle.seal.specs.Answered.{scheme_of, Adds, Rows, Printed, Single, HeaderRead};
+ghost use Rattle.text.specs.Writing.{Adds};
+ghost use Rattle.seal.specs.Answered.{scheme_of, Rows, Printed, Single, HeaderRead};
 
 use crate::answering::answer;
 use crate::reading::{read_item, read_suite};
@@ -35,6 +36,8 @@ fn print_rows<S: Suite>(suite: &S, text: &[u8], out: &mut String) -> fmt::Result
 fn read_header(input: &[u8]) -> Result<(SuiteKind, KeyPair, &[u8]), BadLine>
     ensures { HeaderRead (lines_of input.now) result }
 {
+    // `script` reads such a line by a helper that takes a closure. In `text`, for both, it would be public and would
+    // have a `requires`, which no public function here has; a helper without the closure saves no line.
     let first = BadLine { number: 1 };
     let second = BadLine { number: 2 };
     let (line, rest) = next_line(input).ok_or(first)?;
@@ -44,11 +47,12 @@ fn read_header(input: &[u8]) -> Result<(SuiteKind, KeyPair, &[u8]), BadLine>
     Ok((kind, keys, rest))
 }
 
-// The same under the suite and the keys of the header.
+// Adds what is printed for the items, under the suite of this kind and these keys.
 fn print_items(kind: SuiteKind, keys: &KeyPair, text: &[u8], out: &mut String) -> fmt::Result
     ensures { OnOk result (Adds (Rows (scheme_of kind keys.now) 3 (lines_of text.now)) (string_bytes out.old) (string_bytes out.new)) }
 {
-    // `bench` has the same two arms: a closure takes one type of suite, and a trait for what runs under both is longer.
+    // `bench` has the same two arms: a closure takes one type of suite, a trait for what runs under both is longer, and
+    // an enum of both suites could not have one `NUMBER`.
     match kind {
         SuiteKind::Sip => print_rows(&SipSuite::new(&keys.mac, &keys.pad), text, out),
         SuiteKind::Cmac => print_rows(&CmacSuite::new(&keys.mac), text, out),

@@ -4,7 +4,7 @@ ghost use Rattle.std.proofs.Common.{rules};
 
 use crate::message::{message, word_of};
 use crate::nonce::Nonce;
-use crate::suite::Suite;
+use crate::suite::{MAC_BOUND, Suite};
 use cmac::CmacKey;
 
 // Suite 2: AES-CMAC macs, pads of zeros.
@@ -39,7 +39,7 @@ impl Suite for CmacSuite {
     ghost small = { Prim.search rules };
 
     fn mac(&self, nonce: Nonce, words: &[u64; 8]) -> u64 {
-        word_of(&self.cmac.tag(message(nonce, words).as_flattened()), 0) % 0x40_0000_0000_0000
+        word_of(&self.cmac.tag(message(nonce, words).as_flattened()), 0) % MAC_BOUND
     }
 
     fn pad(&self, _nonce: Nonce) -> [u64; 8] {

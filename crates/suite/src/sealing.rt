@@ -39,7 +39,7 @@ fn mixed(words: &[u64; 8], pad: &[u64; 8]) -> [u64; 8]
     array::from_fn(|i| words[i] ^ pad[i])
 }
 
-// Words combined with the pad of an address and a counter.
+// Words combined with the pad of a nonce.
 fn padded<S: Suite>(suite: &S, nonce: Nonce, words: &[u64; 8]) -> [u64; 8]
     ensures { row result ≡ mix (row words.now) ((S.Suite.scheme suite.now).pad nonce.at nonce.counter) }
 {

@@ -4,7 +4,7 @@ ghost use Rattle.std.proofs.Common.{rules};
 
 use crate::message::{message, pad_block, word_of};
 use crate::nonce::Nonce;
-use crate::suite::Suite;
+use crate::suite::{MAC_BOUND, Suite};
 use aes::Aes128;
 use sip::SipKey;
 use std::array;
@@ -52,7 +52,7 @@ impl Suite for SipSuite {
     ghost small = { Prim.search rules };
 
     fn mac(&self, nonce: Nonce, words: &[u64; 8]) -> u64 {
-        self.hash.hash(message(nonce, words).as_flattened()) % 0x40_0000_0000_0000
+        self.hash.hash(message(nonce, words).as_flattened()) % MAC_BOUND
     }
 
     fn pad(&self, nonce: Nonce) -> [u64; 8] {

@@ -4,6 +4,9 @@ ghost use Rattle.suite.specs.Words.{row};
 
 use crate::nonce::Nonce;
 
+// Every mac is below this: a tag is a mac and then ten bits.
+pub(crate) const MAC_BOUND: u64 = 1 << 54;
+
 // What seals lines: a number, a mac for each address, words and counter, and a pad for each address and counter.
 // It never refuses, and its answers are those of its scheme.
 pub trait Suite {

@@ -45,6 +45,7 @@ pub fn number(text: &[u8]) -> Option<u64>
         return None;
     }
     let mut value = 0u64;
+    // `try_fold` with `push_digit` was tried: the goal that the digits spell the value stays open.
     for byte in text {
         value = push_digit(value, *byte)?;
     }

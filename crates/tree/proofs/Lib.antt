@@ -1,4 +1,5 @@
 pub mod Rows
+pub mod FirstSlot
 pub mod InOrder
 pub mod Sums
 pub mod Lowest

@@ -7,7 +7,7 @@ ghost use Rattle.tree.specs.Tables.{slot_in};
 ghost use Rattle.tree.specs.SlotTable.{table_in, HasRoom, FitToPush, Raised, Pushed, Removed};
 
 use crate::counters::{LIMIT, within_limit};
-use crate::types::{Slot, Slots};
+use crate::types::{MOST_PENDING, Slot, Slots};
 
 impl Slots {
     // A slot more, for a node that has none.
@@ -28,7 +28,7 @@ impl Slots {
         !self.is_full() && self.layout.is_node(node) && within_limit(counters)
     }
 
-    // A slot more; false, and nothing changes, where it does not fit.
+    // A slot more; false, and nothing changes, where it does not fit. A bool as of `HashSet::insert`: one refusal, and no more to say of it.
     pub fn push(&mut self, slot: Slot) -> bool
         ensures { Pushed self.old slot result self.new }
     {
@@ -40,7 +40,7 @@ impl Slots {
     }
 
     // One counter of a node becomes `counter`: in its slot, or in a new one from the counters `fresh`.
-    // False, and nothing changes, where that does not fit.
+    // False, and nothing changes, where that does not fit: a bool as of `push`.
     pub fn raise(&mut self, at: usize, index: usize, counter: u64, fresh: &[u64; 8]) -> bool
         ensures { Raised self.old at index counter (row fresh.now) result self.new }
     {
@@ -48,7 +48,7 @@ impl Slots {
             return false;
         }
         if let Some(i) = self.find(at) {
-            if self.table[i].pending >= 1023 {
+            if self.table[i].pending >= MOST_PENDING {
                 return false;
             }
             raise_slot(&mut self.table[i], index, counter);

@@ -5,9 +5,7 @@ ghost use Rattle.tree.specs.DirtyMap.{bits_set, TopBit, TopOfWord, HighestBelow,
 pub fn map_of(words: &[u64; 32]) -> [u64; 10]
     ensures { result ≡ take 10 (drop 22 words.now) }
 {
-    let mut map = [0; 10];
-    map.copy_from_slice(&words[22..32]);
-    map
+    *words[22..].first_chunk().unwrap()
 }
 
 // How many nodes a dirty map names.

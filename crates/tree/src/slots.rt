@@ -7,7 +7,7 @@ ghost use Rattle.tree.specs.SlotTable.{table_in, no_slots, map_in, Finds, Counte
 
 use crate::counters::sum_of;
 use crate::dirty_map::set_bit;
-use crate::types::{Layout, Slot, Slots};
+use crate::types::{Layout, MOST_PENDING, Slot, Slots};
 
 impl Slots {
     // No dirty nodes.
@@ -69,8 +69,7 @@ impl Slots {
     fn slot(&self, at: usize) -> Option<&Slot>
         ensures { MatchOption result (table_in self.now at ≡ none) (λ slot. table_in self.now at ≡ some (slot_in slot.now)) }
     {
-        let i = self.find(at)?;
-        Some(&self.table[i])
+        self.slots_in_use().iter().find(|slot| slot.address == at)
     }
 
     // Whether a node is dirty.
@@ -84,7 +83,8 @@ impl Slots {
     pub fn overdue(&self, at: usize) -> bool
         ensures { result ≡ overdue_in (table_in self.now at) }
     {
-        self.slot(at).is_some_and(|slot| slot.pending >= 1023)
+        self.slot(at)
+            .is_some_and(|slot| slot.pending >= MOST_PENDING)
     }
 
     // One of the eight counters of a dirty node.
@@ -93,9 +93,7 @@ impl Slots {
     {
         self.slot(at)?.counters.get(index).copied()
     }
-}
 
-impl Slots {
     // The dirty node of lowest address.
     pub fn lowest(&self) -> Option<usize>
         ensures { LowestIs (shape_in self.now.layout) (table_in self.now) result }

@@ -6,6 +6,9 @@ ghost use Rattle.tree.specs.Tables.{no_slot};
 
 pub use machine::layout::Layout;
 
+// The most pending increments of a node: with so many it is overdue.
+pub(crate) const MOST_PENDING: u64 = 1023;
+
 // A dirty node on the chip: its address, its counters and its pending increments.
 #[derive(Clone, Copy)]
 pub struct Slot {
@@ -17,7 +20,7 @@ pub struct Slot {
 // The chip's slots: the dirty nodes of a layout, one slot to each.
 #[derive(Drop)]
 pub struct Slots {
-    // A plain array with the number used, and no Vec: the slots need no heap, and one of them is lent to be raised in place.
+    // A plain array with the number used: the rule here is fixed memory and no heap. An `ArrayVec` is no plainer: it is the same table and number, and needs a blank slot at each removal.
     pub(crate) table: [Slot; 64],
     pub(crate) used: usize,
     pub(crate) layout: Layout,

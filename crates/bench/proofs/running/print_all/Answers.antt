@@ -1,6 +1,6 @@
 use Rattle.std.proofs.lemmas.Result.{IfOk-weaker}
 use Rattle.std.proofs.Common.{Ok, Err, refl}
-use Rattle.bench.specs.Rows.{bad}
+use Rattle.text.specs.Writing.{bad}
 use Rattle.bench.specs.Printed.{blank, Printed}
 use Rattle.bench.proofs.running.print_all.Goals as goal
 

@@ -18,5 +18,5 @@ returns c =
     let here : x ≡ get_or c.as_chunks.result.0.now c.args.at x = search rules in
     let there : x ≡ get_or (first_chunks 9 (length ws / 9) ws) c.args.at x = here ∙ ap (λ cs. get_or cs c.args.at x) c.as_chunks.ensures.front in (
       omega (arith, within, memory_count ws),
-      c.line_in.ensures ∙ ap line_of there ∙ memory_chunk ws c.args.at x within ∙ sym (memory_read ws c.args.at c.line_in.result within),
+      c.from.ensures ∙ ap line_of there ∙ memory_chunk ws c.args.at x within ∙ sym (memory_read ws c.args.at c.from.result within),
     )

@@ -1,6 +1,6 @@
-use Rattle.std.proofs.Common.{sym, ◌∙◌}
+use Rattle.std.proofs.Common.{sym}
 use Rattle.board.proofs.Memories.{memory_count}
 use Rattle.board.proofs.memory.lines_in.Goals as goal
 
 pub returns : goal.returns
-returns c = c.whole_lines.ensures ∙ sym (memory_count c.args.words.now)
+returns c = sym (memory_count c.args.words.now)

@@ -1,6 +1,5 @@
 use Rattle.std.proofs.Common.{eqb, sym, ap, ◌∙◌}
 use Rattle.std.proofs.lemmas.Result.{err_from_is_err_and}
-use Rattle.machine.specs.Words.{register_in}
 use Rattle.machine.specs.Plans.{map_count, sum_of}
 use Rattle.machine.specs.Layouts.{shape_in}
 use Rattle.tree.specs.SlotTable.{table_in}
@@ -13,8 +12,7 @@ pub restore-requires-clause-dirty_nodes : goal.restore-requires-clause-dirty_nod
 unfolding map_count
 restore-requires-clause-dirty_nodes g c =
     let M = g.B.Board.meaning c.args.board.now in
-    let q = c.decode-register.ensures.meaning ∙ ap register_in c.read_register.ensures in
-    let f = c.decode-register.result in (fields_map f M.register q c.args.layout.levels (c.requires.0.own ∙ sym (levels_in M.register) ∙ sym (fields_levels f M.register q)), c.requires.1)
+    let f = c.args.register.now in (fields_map f M.register c.requires.own c.args.layout.levels (c.requires.fits.own ∙ sym (levels_in M.register) ∙ sym (fields_levels f M.register c.requires.own)), c.requires.few)
 
 pub returns-in_err-restore : goal.returns-in_err-restore
 returns-in_err-restore g c =
@@ -25,16 +23,16 @@ pub returns-then-not-adds_up : goal.returns-then-not-adds_up
 returns-then-not-adds_up g c =
     let M = g.B.Board.meaning c.args.board.now in
     let r = c.in_ok-restore.ensures in
-    recover_missed c.args.layout.levels M (g.S.Suite.scheme c.args.suite.now) (table_in c.restore.new.slots) r.value c.decode-register.result.dirty_sum
-    (fields_sum c.decode-register.result M.register (c.decode-register.ensures.meaning ∙ ap register_in c.read_register.ensures))
-    (ap (λ (l : Layout). eqb (sum_of (shape_in l) (table_in c.restore.new.slots)) c.decode-register.result.dirty_sum) (sym r.layout) ∙ sym c.adds_up.ensures ∙ c.if-not-adds_up.true)
+    recover_missed c.args.layout.levels M (g.S.Suite.scheme c.args.suite.now) (table_in c.restore.new.slots) r.value c.args.register.now.dirty_sum
+    (fields_sum c.args.register.now M.register c.requires.own)
+    (ap (λ (l : Layout). eqb (sum_of (shape_in l) (table_in c.restore.new.slots)) c.args.register.now.dirty_sum) (sym r.layout) ∙ sym c.adds_up.ensures ∙ c.if-not-adds_up.true)
 
 pub returns : goal.returns
 returns g c =
     let M = g.B.Board.meaning c.args.board.now in
     let r = c.in_ok-restore.ensures in (
-      recover_ok c.args.layout.levels M (g.S.Suite.scheme c.args.suite.now) (table_in c.restore.new.slots) r.value c.decode-register.result.dirty_sum
-          (fields_sum c.decode-register.result M.register (c.decode-register.ensures.meaning ∙ ap register_in c.read_register.ensures))
-          (ap (λ (l : Layout). eqb (sum_of (shape_in l) (table_in c.restore.new.slots)) c.decode-register.result.dirty_sum) (sym r.layout) ∙ sym c.adds_up.ensures ∙ c.if-not-adds_up.false),
+      recover_ok c.args.layout.levels M (g.S.Suite.scheme c.args.suite.now) (table_in c.restore.new.slots) r.value c.args.register.now.dirty_sum
+          (fields_sum c.args.register.now M.register c.requires.own)
+          (ap (λ (l : Layout). eqb (sum_of (shape_in l) (table_in c.restore.new.slots)) c.args.register.now.dirty_sum) (sym r.layout) ∙ sym c.adds_up.ensures ∙ c.if-not-adds_up.false),
       r.layout,
     )

@@ -1,4 +1,5 @@
-use Rattle.std.proofs.Common.{arith, rules}
+use Rattle.machine.specs.Words.{register_in}
+use Rattle.std.proofs.Common.{ap, ◌∙◌, refl, arith, rules}
 use Rattle.std.proofs.lemmas.Result.{err_from_is_err_and}
 use Rattle.tree.specs.SlotTable.{table_in}
 use Rattle.controller.specs.Views.{tree_fault}
@@ -8,7 +9,7 @@ use Rattle.controller.proofs.view.View.+counter_of.Goals as goal
 pub returns-then-parent-lines : goal.returns-then-parent-lines
 returns-then-parent-lines g t c =
     let v = c.args.self.now in
-    from_root v.layout.levels (g.B.Board.meaning v.board.now) v.fits (g.S.Suite.scheme v.suite.now) (table_in v.slots.now) c.args.at c.parent-parent.result c.index-index.result c.requires c.parent-parent.ensures c.index-index.ensures.value (omega (arith, c.lines.ensures.value)) c.read_register.result c.read_register.ensures
+    from_root v.layout.levels (g.B.Board.meaning v.board.now) v.fits (g.S.Suite.scheme v.suite.now) (table_in v.slots.now) c.args.at c.parent-parent.result c.index-index.result c.requires c.parent-parent.ensures c.index-index.ensures.value (omega (arith, c.lines.ensures.value)) c.decode.result (c.decode.ensures.meaning ∙ ap register_in c.read_register.ensures)
 
 pub returns-in-Some : goal.returns-in-Some
 returns-in-Some g t c =
@@ -28,12 +29,14 @@ returns-in_err-counter g t c =
     let p = err_from_is_err_and c.from_residual.result c.from_residual.ensures.1 in
     rw (p.1, p.2) (from_above v.layout.levels (g.B.Board.meaning v.board.now) v.fits (g.S.Suite.scheme v.suite.now) (table_in v.slots.now) c.args.at c.parent-parent.result c.index-index.result c.requires c.parent-parent.ensures c.index-index.ensures.value (omega (arith, c.lines.ensures.value)) (c.in_default.ensures (omega (arith, c.index-index.ensures.value))) (tree_fault c.in_err-counter.field-0.0) c.in_err-counter.ensures)
 
-pub returns-then-not-node_valid : goal.returns-then-not-node_valid
-returns-then-not-node_valid g t c =
+pub returns-in_err-line : goal.returns-in_err-line
+returns-in_err-line g t c =
     let v = c.args.self.now in
-    from_corrupt v.layout.levels (g.B.Board.meaning v.board.now) v.fits (g.S.Suite.scheme v.suite.now) (table_in v.slots.now) c.args.at c.parent-parent.result c.index-index.result c.requires c.parent-parent.ensures c.index-index.ensures.value (omega (arith, c.lines.ensures.value)) (c.in_default.ensures (omega (arith, c.index-index.ensures.value))) c.in_ok-counter.counter c.in_ok-counter.ensures c.in_ok-line.line c.in_ok-line.ensures.1 c.node_valid.result c.node_valid.ensures c.if-not-node_valid.true
+    let p = err_from_is_err_and c.from_residual-in_err-line.result c.from_residual-in_err-line.ensures.1 in
+    let e = c.in_err-line.ensures in
+    rw (p.1, p.2, e.0) (from_corrupt v.layout.levels (g.B.Board.meaning v.board.now) v.fits (g.S.Suite.scheme v.suite.now) (table_in v.slots.now) c.args.at c.parent-parent.result c.index-index.result c.requires c.parent-parent.ensures c.index-index.ensures.value (omega (arith, c.lines.ensures.value)) (c.in_default.ensures (omega (arith, c.index-index.ensures.value))) c.in_ok-counter.counter c.in_ok-counter.ensures _ refl _ refl e.1)
 
 pub returns : goal.returns
 returns g t c =
     let v = c.args.self.now in
-    from_line v.layout.levels (g.B.Board.meaning v.board.now) v.fits (g.S.Suite.scheme v.suite.now) (table_in v.slots.now) c.args.at c.parent-parent.result c.index-index.result c.requires c.parent-parent.ensures c.index-index.ensures.value (omega (arith, c.lines.ensures.value)) (c.in_default.ensures (omega (arith, c.index-index.ensures.value))) c.in_ok-counter.counter c.in_ok-counter.ensures c.in_ok-line.line c.in_ok-line.ensures.1 c.node_valid.result c.node_valid.ensures c.if-not-node_valid.false
+    from_line v.layout.levels (g.B.Board.meaning v.board.now) v.fits (g.S.Suite.scheme v.suite.now) (table_in v.slots.now) c.args.at c.parent-parent.result c.index-index.result c.requires c.parent-parent.ensures c.index-index.ensures.value (omega (arith, c.lines.ensures.value)) (c.in_default.ensures (omega (arith, c.index-index.ensures.value))) c.in_ok-counter.counter c.in_ok-counter.ensures c.in_ok-line.line c.in_ok-line.ensures.0 _ refl c.in_ok-line.ensures.1

@@ -15,4 +15,4 @@ returns-in_err-counter g c =
 pub returns : goal.returns
 returns g c =
     let v = c.args.self.now in
-    ap body_in c.ok_or.ensures.value ∙ read_answers v.layout.levels (g.B.Board.meaning v.board.now) (g.S.Suite.scheme v.suite.now) (table_in v.slots.now) c.args.at c.requires c.in_ok-counter.counter c.in_ok-counter.ensures c.in_ok-line.line c.in_ok-line.ensures.1 c.open_data.result c.open_data.ensures
+    ap body_in c.ok_or.ensures.value ∙ read_answers v.layout.levels (g.B.Board.meaning v.board.now) (g.S.Suite.scheme v.suite.now) (table_in v.slots.now) c.args.at c.requires c.in_ok-counter.counter c.in_ok-counter.ensures c.in_ok-line.line c.in_ok-line.ensures.1 c.open_data.result (rw c.nonce-nonce.ensures at c.open_data.ensures)

@@ -27,7 +27,7 @@ returns-in-Some c =
         node = subst (λ x. 8 ^ c.args.self.now.layout.levels ≤ x) F.2 (s.node c.in-Some.i F.0);
         range = subst (λ x. x < lines_of c.args.self.now.layout.levels) F.2 (s.range c.in-Some.i F.0);
         within = c.if-counter-gt-LIMIT.false;
-        in_time = ap overdue F.1 ∙ lt-leb 1023 (get_or s.table c.in-Some.i no_slot).pending c.if-self-i-ge1023.false;
+        in_time = ap overdue F.1 ∙ lt-leb 1023 (get_or s.table c.in-Some.i no_slot).pending c.if-self-i-ge-MOST_PENDING.false;
         room = λ e. absurd (none≢some (sym e ∙ F.1));
         fresh = λ e. absurd (none≢some (sym e ∙ F.1));
       },
