@@ -34,6 +34,7 @@ fn new_register(layout: Layout, number: u64) -> [u64; 32]
 }
 
 // Writes each line with zeros under counter 0, from 0 up.
+// It and `write_format` take no view, since they write to the board.
 fn write_blank_lines<B: Board, S: Suite>(
     board: &mut B,
     suite: &S,
