@@ -113,9 +113,10 @@ pub extern "C" fn boardbench_bring_ups(
 ) -> u64
     ensures { result ≤ turns }
 {
-    let mut open = opened(Memory::new(words), keyed(), levels, 64);
+    let suite = keyed();
+    let mut open = opened(Memory::new(words), suite, levels, 64);
     make_dirty(&mut open, dirty);
-    let (_memory, done) = bring_ups(open, keyed(), turns);
+    let (_memory, done) = bring_ups(open, suite, turns);
     done
 }
 

@@ -8,9 +8,8 @@ use Rattle.suite.specs.Scheme.{data_line, node_line, Scheme, Body}
 use Rattle.board.specs.Meaning.{Meaning}
 use Rattle.machine.specs.Layout.{update, eight_ary, lines_of, counter_limit}
 use Rattle.machine.specs.Store.{Register, line_at}
-use Rattle.machine.specs.Encoding.{register_meant}
-use Rattle.machine.specs.declared.types.Register.{Register as Fields}
-use Rattle.machine.specs.Words.{memory_in, row, no_line}
+use Rattle.machine.specs.Encoding.{with_counter}
+use Rattle.machine.specs.Words.{memory_in, register_in, row, no_line}
 use Rattle.machine.specs.Plans.{Slot, Table, raised, slot_for, overdue}
 use Rattle.machine.specs.Layouts.{shape_in}
 use Rattle.tree.specs.SlotTable.{slot_or, table_in, Raised, FitToRaise}
@@ -44,39 +43,16 @@ raised_in_slots h m t a c p q n l e =
     fresh (some s) = refl
     fresh none = refl
 
--- Words with one set, as a function of their place.
-row_set : (xs : List ℕ) (i c : ℕ) → i < length xs → row (set xs i c) ≡ update (row xs) i c
-row_set xs i c n = fun_ext (λ k. go k (cases_eq k i))
-  where
-    go : (k : ℕ) → (k ≡ i) ⊎ (k ≡ i → ⊥) → get_or (set xs i c) k 0 ≡ cond (eqb k i) c (get_or xs k 0)
-    go k (inl e) = rw (eq-eqb k i e) (ap (λ j. get_or (set xs i c) j 0) e ∙ get_or-set_same xs i c 0 n)
-    go k (inr e) = rw (ne_eqb k i e) (get_or-set_other xs i k c 0 e)
-
--- A register with a counter of the root set.
-abbrev pub with_counter : Fields → ℕ → ℕ → Fields
-with_counter f i c = record { formatted = f.formatted; levels = f.levels; suite = f.suite; roots = set f.roots i c; dirty_sum = f.dirty_sum; journal = f.journal; dirty = f.dirty }
-
--- The register by name: its roots stay where a node is the parent, else one of them is raised.
-module _ (h a c p : ℕ) (f : Fields) (g : Register) (q : p ≡ 8 ^ h + a / 8) (e : register_meant f ≡ g) where
-  meant_roots : row f.roots ≡ g.roots
-  unfolding register_meant
-  meant_roots i = (e i).roots
-
-  pub roots_same : p < lines_of h → register_meant f ≡ with_root (eight_ary h) a c g
+-- The register's words: its roots stay where a node is the parent, else one of them is raised.
+module _ (h a c p : ℕ) (ws : List ℕ) (g : Register) (q : p ≡ 8 ^ h + a / 8) (e : register_in ws ≡ g) where
+  pub roots_same : p < lines_of h → register_in ws ≡ with_root (eight_ary h) a c g
   roots_same n = e ∙ (λ i. record { formatted = g.formatted; levels = g.levels; suite = g.suite; roots = sym (ap (λ b. cond b g.roots (update g.roots (a % 8) c)) (lt-ltb (8 ^ h + a / 8) (lines_of h) (subst (λ x. x < lines_of h) q n))) i; dirty_sum = g.dirty_sum; journal = g.journal; dirty = g.dirty })
 
-  pub roots_raised : lines_of h ≤ p → (i : ℕ) → i ≡ a % 8 → length f.roots ≡ 8 → register_meant (with_counter f i c) ≡ with_root (eight_ary h) a c g
-  unfolding register_meant
-  roots_raised n i j l =
-      λ z. record {
-        formatted = (e z).formatted;
-        levels = (e z).levels;
-        suite = (e z).suite;
-        roots = (row_set f.roots i c (omega (arith, j, l)) ∙ (λ y. update (meant_roots y) (j y) c) ∙ sym (ap (λ b. cond b g.roots (update g.roots (a % 8) c)) (le-ltb (8 ^ h + a / 8) (lines_of h) (subst (λ x. lines_of h ≤ x) q n)))) z;
-        dirty_sum = (e z).dirty_sum;
-        journal = (e z).journal;
-        dirty = (e z).dirty;
-      }
+  pub roots_raised : lines_of h ≤ p → (i : ℕ) → i ≡ a % 8 → (ws' : List ℕ) → register_in ws' ≡ with_counter (register_in ws) (i % 8) c → register_in ws' ≡ with_root (eight_ary h) a c g
+  roots_raised n i j ws' w =
+      let k : i % 8 ≡ a % 8 = omega (arith, j) in
+      w ∙ ap (λ (r : Register). with_counter r (i % 8) c) e ∙ ap (λ x. with_counter g x c) k
+      ∙ (λ z. record { formatted = g.formatted; levels = g.levels; suite = g.suite; roots = sym (ap (λ b. cond b g.roots (update g.roots (a % 8) c)) (le-ltb (8 ^ h + a / 8) (lines_of h) (subst (λ x. lines_of h ≤ x) q n))) z; dirty_sum = g.dirty_sum; journal = g.journal; dirty = g.dirty })
 
 -- A raise that fits is done.
 pub raise_done : (s s' : Slots) (p i c : ℕ) (f : Body) (b : Bool) → Raised s p i c f b s' → FitToRaise s p i c f → (table_in s' ≡ update (table_in s) p (some (raised (slot_or (table_in s p) f) i c))) × (s'.layout ≡ s.layout)
@@ -115,9 +91,9 @@ module _ (s : Slots) (m : Meaning) (y : Layout) (e : y ≡ s.layout) (a p i n c 
       let d = raise_done s s' p i c (row l.body) b r (raise_fits s m a p i c l above j o f R S u) in
       (d.0 ∙ ap (λ x. update (table_in s) p (some (raised (slot_or (table_in s p) (row l.body)) x c))) j ∙ raised_in_slots s.layout.levels m (table_in s) a c p above o l f, d.1)
 
-  module _ (f : Fields) (g : Register) (w : register_meant f ≡ g) where
-    pub register_node : p < n → register_meant f ≡ with_root (shape_in s.layout) a c g
-    register_node k = roots_same s.layout.levels a c p f g above w (subst (λ x. p < x) all k)
+  module _ (ws : List ℕ) (g : Register) (w : register_in ws ≡ g) where
+    pub register_node : p < n → register_in ws ≡ with_root (shape_in s.layout) a c g
+    register_node k = roots_same s.layout.levels a c p ws g above w (subst (λ x. p < x) all k)
 
-    pub register_root : n ≤ p → length f.roots ≡ 8 → register_meant (with_counter f i c) ≡ with_root (shape_in s.layout) a c g
-    register_root k = roots_raised s.layout.levels a c p f g above w (subst (λ x. x ≤ p) all k) i (j ∙ ap (λ (y : Layout). a % 8) e)
+    pub register_root : n ≤ p → (ws' : List ℕ) → register_in ws' ≡ with_counter (register_in ws) (i % 8) c → register_in ws' ≡ with_root (shape_in s.layout) a c g
+    register_root k = roots_raised s.layout.levels a c p ws g above w (subst (λ x. x ≤ p) all k) i (j ∙ ap (λ (y : Layout). a % 8) e)

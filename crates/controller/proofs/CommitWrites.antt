@@ -8,8 +8,7 @@ use Rattle.board.specs.Calls.{RegisterWritten, LineWritten}
 use Rattle.machine.specs.Layout.{eight_ary, lines_of}
 use Rattle.machine.specs.Store.{Register, line_at}
 use Rattle.machine.specs.Words.{row, line_in, register_in, memory_in, no_address}
-use Rattle.machine.specs.Encoding.{register_meant}
-use Rattle.machine.specs.declared.types.Register.{Register as Fields}
+use Rattle.machine.specs.Encoding.{committed}
 use Rattle.machine.specs.Plans.{Table, View, Run, is_dirty, sum_of, raise_table, commit_register, commit_under}
 use Rattle.controller.specs.Views.{view_in, tree_fault, Fits, with_line}
 use Rattle.machine.specs.Layouts.{shape_in}
@@ -18,7 +17,7 @@ use Rattle.machine.specs.declared.layout.Layout.{Layout}
 use Rattle.tree.specs.declared.types.Slots.{Slots}
 use Rattle.controller.specs.Runs.{Went}
 use Rattle.controller.specs.Registers.{with_root, raised_slots}
-use Rattle.controller.proofs.RegisterIs.{journaled, real, register_is}
+use Rattle.controller.proofs.RegisterIs.{real, register_is}
 use Rattle.controller.proofs.TwoWrites.{two_lost, two_half, two_done}
 use Rattle.board.specs.declared.types.Line.{Line}
 use Rattle.board.specs.declared.types.BoardFault.{BoardFault}
@@ -50,12 +49,12 @@ pub record Prepared (h : ℕ) (m : Meaning) (S : Scheme) (t : Table) (a c : ℕ)
 
 -- So are those that the code prepared, s₁ being the slots once the counter is raised and r the register then.
 pub prepared : (s s₁ : Slots) {m : Meaning} (F : Fits s.layout.levels m) {S : Scheme} {a c : ℕ} {b : Body} (k : a < lines_of s.layout.levels) {l : Line} (y : Layout) (e : y ≡ s.layout) (q : line_in l ≡ line_at (shape_in y) S a c b)
-    (ms : List ℕ) {ws : List ℕ} (r : Fields) {sum : ℕ} (table : table_in s₁ ≡ raised_slots (shape_in s.layout) (memory_in m.lines) (table_in s) a c) (raised : register_meant r ≡ with_root (shape_in s.layout) a c (register_in m.register)) (layout : s₁.layout ≡ s.layout)
-    (w : (a ≡ no_address → ⊥) → register_in ws ≡ register_meant (journaled r sum a l ms)) (f : sum ≡ sum_of (shape_in s₁.layout) (table_in s₁)) (g : map_in s₁.layout.levels ms ≡ (λ p. is_dirty (table_in s₁ p))) → Prepared s.layout.levels m S (table_in s) a c b l ws
+    (ms : List ℕ) {ws : List ℕ} (r : List ℕ) {sum : ℕ} (table : table_in s₁ ≡ raised_slots (shape_in s.layout) (memory_in m.lines) (table_in s) a c) (raised : register_in r ≡ with_root (shape_in s.layout) a c (register_in m.register)) (layout : s₁.layout ≡ s.layout)
+    (w : (a ≡ no_address → ⊥) → register_in ws ≡ committed (register_in r) sum (record { at = a; line = l }) ms) (f : sum ≡ sum_of (shape_in s₁.layout) (table_in s₁)) (g : map_in s₁.layout.levels ms ≡ (λ p. is_dirty (table_in s₁ p))) → Prepared s.layout.levels m S (table_in s) a c b l ws
 prepared s s₁ {m} F {S} {a} {c} {b} k {l} y e q ms {ws} r {sum} table raised layout w f g =
     record {
       sealed = q ∙ ap (λ (z : Layout). line_at (shape_in z) S a c b) e;
-      register = w (real s.layout.levels m F S (table_in s) a c k) ∙ register_is s.layout.levels m F S (table_in s) a c k r l ms sum (table_in s₁) raised table
+      register = w (real s.layout.levels m F S (table_in s) a c k) ∙ register_is s.layout.levels m F S (table_in s) a c k (register_in r) l ms sum (table_in s₁) raised table
           (f ∙ ap (λ (z : Layout). sum_of (shape_in z) (table_in s₁)) layout) (ap (λ (z : Layout). map_in z.levels ms) (sym layout) ∙ g);
     }
 

@@ -7,18 +7,13 @@ use Rattle.board.specs.Meaning.{Meaning}
 use Rattle.machine.specs.Layout.{TreeLaws, update, eight_ary, lines_of}
 use Rattle.machine.specs.Words.{line_in, register_in, no_address}
 use Rattle.machine.specs.Store.{Register}
-use Rattle.machine.specs.Encoding.{register_meant}
-use Rattle.machine.specs.declared.types.Register.{Register as Fields}
+use Rattle.machine.specs.Encoding.{committed}
 use Rattle.machine.specs.Plans.{Table, View, is_dirty, sum_of, slot_for, raised, raise_table, raise_roots, commit_register}
 use Rattle.tree.specs.SlotTable.{map_in}
 use Rattle.controller.specs.Views.{view_in, Fits}
 use Rattle.controller.specs.Registers.{with_root, raised_slots}
 use Rattle.machine.proofs.EightAry.{eight_trees}
 use Rattle.board.specs.declared.types.Line.{Line}
-
--- A register with a dirty sum, a journal and a dirty map.
-abbrev pub journaled : Fields → ℕ → ℕ → Line → List ℕ → Fields
-journaled f sum a l ms = record { formatted = f.formatted; levels = f.levels; suite = f.suite; roots = f.roots; dirty_sum = sum; journal = Some (record { at = a; line = l }); dirty = ms }
 
 pub lines_small : (h : ℕ) → 1 ≤ h → h ≤ 4 → lines_of h ≤ 4680
 lines_small zero k j = absurd (omega arith)
@@ -63,9 +58,9 @@ module _ (h : ℕ) (m : Meaning) (F : Fits h m) (S : Scheme) (t : Table) (a c : 
   real x = omega (arith, lines_small h F.low F.high)
 
   -- The register that the code writes is the definitions' register of the commit.
-  pub register_is : (f : Fields) (l : Line) (ms : List ℕ) (sum : ℕ) (t' : Table) → register_meant f ≡ with_root (eight_ary h) a c v.register → t' ≡ raised_slots (eight_ary h) v.memory t a c → sum ≡ sum_of (eight_ary h) t' → map_in h ms ≡ (λ p. is_dirty (t' p)) → register_meant (journaled f sum a l ms) ≡ commit_register (eight_ary h) v.register (raise_table (eight_ary h) depth v.memory t a c) a c (line_in l)
-  unfolding register_in register_meant sum_of
-  register_is f l ms sum t' q e s g =
+  pub register_is : (g' : Register) (l : Line) (ms : List ℕ) (sum : ℕ) (t' : Table) → g' ≡ with_root (eight_ary h) a c v.register → t' ≡ raised_slots (eight_ary h) v.memory t a c → sum ≡ sum_of (eight_ary h) t' → map_in h ms ≡ (λ p. is_dirty (t' p)) → committed g' sum (record { at = a; line = l }) ms ≡ commit_register (eight_ary h) v.register (raise_table (eight_ary h) depth v.memory t a c) a c (line_in l)
+  unfolding register_in sum_of
+  register_is g' l ms sum t' q e s g =
       λ i. record {
         formatted = (q i).formatted;
         levels = (q i).levels;

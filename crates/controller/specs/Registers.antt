@@ -3,10 +3,8 @@ use Rattle.std.specs.Prelude.{◌≡◌, ℕ, suc, ◌<◌, ◌≤◌, cond, Lis
 use Rattle.std.proofs.Math.Option.{Option, some, none}
 use Rattle.suite.specs.Scheme.{Line}
 use Rattle.machine.specs.Layout.{Shape, update, counter_limit}
-use Rattle.machine.specs.Words.{no_address}
-use Rattle.machine.specs.Encoding.{register_meant}
+use Rattle.machine.specs.Words.{no_address, register_in}
 use Rattle.machine.specs.Store.{Register}
-use Rattle.machine.specs.declared.types.Register.{Register as Fields}
 use Rattle.machine.specs.Faults.{Fault, fault, Outcome, ok, err, at_limit}
 use Rattle.machine.specs.Plans.{Slot, Table, View, slot_for, raised}
 use Rattle.controller.specs.declared.types.LineFault.{LineFault}
@@ -25,9 +23,9 @@ with_root T a c g =
       dirty = g.dirty;
     }
 
--- The same by name, as an answer that is never a fault.
-abbrev pub RegisterRaised : Shape → ℕ → ℕ → Register → Result Fields LineFault → Type 0
-RegisterRaised T a c g (Ok r) = register_meant r ≡ with_root T a c g
+-- The same in words, as an answer that is never a fault.
+abbrev pub RegisterRaised : Shape → ℕ → ℕ → Register → Result (List ℕ) LineFault → Type 0
+RegisterRaised T a c g (Ok ws) = register_in ws ≡ with_root T a c g
 RegisterRaised T a c g (Err f) = ⊥
 
 -- The slots with the counter of line a, where a node is its parent.

@@ -15,7 +15,8 @@ use crate::open::Open;
 use crate::types::{LineFault, TreeFault};
 use board::board::Board;
 use board::types::Line;
-use machine::types::{Journal, Register};
+use machine::register::{put_commit, put_root};
+use machine::types::Journal;
 use suite::sealing::{seal_data, seal_node};
 use suite::suite::Suite;
 use tree::counters::LIMIT;
@@ -38,14 +39,14 @@ pub(crate) fn sealed_line<S: Suite>(
     seal_node(suite, nonce, words)
 }
 
-// Raises the counter of line `at`: in its parent's slot, or in the register, which comes back.
+// Raises the counter of line `at`: in its parent's slot, or in the register's words, which come back.
 // It takes the board and the slots apart, since only the slots change.
 fn raise_at<B: Board>(
     board: &B,
     slots: &mut Slots,
     at: usize,
     counter: u64,
-) -> Result<Register, LineFault>
+) -> Result<[u64; 32], LineFault>
     requires place { (Fits slots.old.layout.levels (B.Board.meaning board.now)) × ((at < (shape_in slots.old.layout).lines) × (counter ≤ counter_limit)) }
     requires room { (RoomAt (shape_in slots.old.layout) at slots.old.used (table_in slots.old)) × (SmallAt (shape_in slots.old.layout) at (view_in (B.Board.meaning board.now) (table_in slots.old))) }
     ensures table { table_in slots.new ≡ raised_slots (shape_in slots.old.layout) (memory_in (B.Board.meaning board.now).lines) (table_in slots.old) at counter }
@@ -53,15 +54,15 @@ fn raise_at<B: Board>(
     ensures layout { slots.new.layout ≡ slots.old.layout }
 {
     let layout = slots.layout();
-    let mut register = Register::decode(&board.read_register());
+    let mut words = board.read_register();
     let parent = layout.parent(at);
     if parent >= layout.lines() {
-        register.roots[layout.index(at)] = counter;
-        return Ok(register);
+        put_root(&mut words, layout.index(at), counter);
+        return Ok(words);
     }
     let fresh = line_of(board, parent)?.body;
     let _ = slots.raise(parent, layout.index(at), counter, &fresh);
-    Ok(register)
+    Ok(words)
 }
 
 impl<B: Board, S: Suite> Open<B, S> {
@@ -95,17 +96,14 @@ impl<B: Board, S: Suite> Open<B, S> {
         ensures rest { Rest self.old.suite self.old.chip self.new.suite self.new.chip }
     {
         let line = sealed_line(&self.suite, self.chip.slots.layout(), at, words, counter);
-        let raised = raise_at(&self.board, &mut self.chip.slots, at, counter)?;
-        let register = Register {
-            dirty_sum: self.chip.slots.sum(),
-            journal: Some(Journal {
-                at: at as u64,
-                line,
-            }),
-            dirty: self.chip.slots.dirty_map(),
-            ..raised
+        let mut register = raise_at(&self.board, &mut self.chip.slots, at, counter)?;
+        let entry = Journal {
+            at: at as u64,
+            line,
         };
-        at_line(self.board.write_register(register.encode()), at)?;
+        let slots = &self.chip.slots;
+        put_commit(&mut register, slots.sum(), &entry, &slots.dirty_map());
+        at_line(self.board.write_register(register), at)?;
         *commits += 1;
         Ok(at_line(self.board.write_line(at, line), at)?)
     }
@@ -120,6 +118,7 @@ impl<B: Board, S: Suite> Open<B, S> {
         requires place { (Fits self.old.chip.slots.layout.levels (B.Board.meaning self.old.board)) × (at < (shape_of self.old.chip).lines) }
         requires room { (RoomAt (shape_of self.old.chip) at self.old.chip.slots.used (table_in self.old.chip.slots)) × (commits.old < 18446744073709551615) }
         ensures went { Went (committing (shape_of self.old.chip) (S.Suite.scheme self.old.suite) (view_of (B.Board.meaning self.old.board) self.old.chip) (table_in self.old.chip.slots) at (row words.now)) (B.Board.meaning self.old.board) (ended result) (B.Board.meaning self.new.board) (table_in self.new.chip.slots) commits.old commits.new }
+        ensures fits { Fits self.new.chip.slots.layout.levels (B.Board.meaning self.new.board) }
         ensures rest { Rest self.old.suite self.old.chip self.new.suite self.new.chip }
     {
         let counter = self.next_counter(at)?;

@@ -1,16 +1,17 @@
 -- The register's words and fields: each comes back from the other, and both mean the same register.
-use Rattle.std.proofs.Common.{◌≡◌, ℕ, zero, suc, ◌+◌, ◌-◌, ◌*◌, ◌/◌, ◌%◌, ◌^◌, ◌<◌, ◌≤◌, Bool, true, false, cond, ◌&&◌, eqb, leb, List, [], ◌∷◌, ◌++◌, length, take, drop, set, replicate, Some, None, Option as Maybe, sym, refl, ap, ◌∙◌, subst, one-add, arith}
+use mathlib.Core.Path.{fun_ext}
+use Rattle.std.proofs.Common.{◌≡◌, ℕ, zero, suc, ◌+◌, ◌-◌, ◌*◌, ◌/◌, ◌%◌, ◌^◌, ◌<◌, ◌≤◌, Bool, true, false, cond, ◌&&◌, eqb, leb, List, [], ◌∷◌, ◌++◌, length, take, drop, set, replicate, Some, None, Option as Maybe, get_or, ◌⊎◌, inl, inr, sym, refl, ap, ◌∙◌, subst, one-add, arith}
 use mathlib.Core.Option.{some, none}
-use Rattle.std.proofs.lemmas.List.{append-nil, take_all, length-take, length-drop, get_or-take, get_or-drop}
+use Rattle.std.proofs.lemmas.List.{append-nil, take_all, length-take, length-drop, length-set, get_or-take, get_or-drop, get_or-set_same, get_or-set_other}
 use Rattle.std.proofs.lemmas.Nat.{mod-pow-add}
 use Rattle.std.proofs.lemmas.List.FromFn.{fill_by_all}
-use Rattle.std.proofs.lemmas.Bool.{ne_eqb, le-leb, eqb-true, eqb-false}
+use Rattle.std.proofs.lemmas.Bool.{ne_eqb, eq-eqb, le-leb, eqb-true, eqb-false, cases_eq}
 use Rattle.machine.proofs.Basics.{sum_same}
 use Rattle.machine.specs.declared.types.Register.{Register as Fields}
 use Rattle.machine.specs.declared.types.Journal.{Journal as Entry}
-use Rattle.machine.specs.Layout.{sum_to}
+use Rattle.machine.specs.Layout.{sum_to, update}
 use Rattle.machine.specs.Words.{journal_words, journal_of, dirty_of, map_word, bit, journal_line, row, listed, no_address, register_in, words_of}
-use Rattle.machine.specs.Encoding.{journal_encoded, journal_meant, register_meant, encoded, decoded, with_journal, said, Real}
+use Rattle.machine.specs.Encoding.{journal_encoded, journal_meant, register_meant, encoded, decoded, with_journal, with_commit, with_counter, committed, said, Real}
 
 -- What holds of every row of n words holds of every list of n words.
 by_rows : (n : ℕ) (P : List ℕ → Type 0) → ((f : ℕ → ℕ) → P (listed n f)) → (xs : List ℕ) → length xs ≡ n → P xs
@@ -153,3 +154,55 @@ module _ (ws : List ℕ) (e : length ws ≡ 32) (small : (k : ℕ) → row ws k 
       journal_case : (b : Bool) → journal_words (cond b none (some (record { at = row ws 12; line = journal_line ws }))) ≡ journal_encoded (cond b None (Some (entry_of 0 0 0 0 (row ws 12) (take 8 (drop 13 ws)) (row ws 21))))
       journal_case true = refl
       journal_case false = ap (λ b. row ws 12 ∷ (b ++ (row ws 21 ∷ []))) (listed_back 8 (take 8 (drop 13 ws)) (part_length ws e 13 (omega arith)))
+
+-- Words with one set, as a function of their place.
+row_set : (xs : List ℕ) (i c : ℕ) → i < length xs → row (set xs i c) ≡ update (row xs) i c
+row_set xs i c n = fun_ext (λ k. go k (cases_eq k i))
+  where
+    go : (k : ℕ) → (k ≡ i) ⊎ (k ≡ i → ⊥) → get_or (set xs i c) k 0 ≡ cond (eqb k i) c (get_or xs k 0)
+    go k (inl e) = rw (eq-eqb k i e) (ap (λ j. get_or (set xs i c) j 0) e ∙ get_or-set_same xs i c 0 n)
+    go k (inr e) = rw (ne_eqb k i e) (get_or-set_other xs i k c 0 e)
+
+-- A root's counter set among the words.
+root_fields : (i : ℕ) → i < 8 → (c : ℕ) (ws : List ℕ) → length ws ≡ 32 → decoded (set ws (3 + i) c) ≡ record { formatted = row ws 0; levels = row ws 1; suite = row ws 2; roots = set (take 8 (drop 3 ws)) i c; dirty_sum = row ws 11; journal = (decoded ws).journal; dirty = (decoded ws).dirty }
+root_fields zero h c = by_rows 32 _ (λ f. refl)
+root_fields (suc zero) h c = by_rows 32 _ (λ f. refl)
+root_fields (suc (suc zero)) h c = by_rows 32 _ (λ f. refl)
+root_fields (suc (suc (suc zero))) h c = by_rows 32 _ (λ f. refl)
+root_fields (suc (suc (suc (suc zero)))) h c = by_rows 32 _ (λ f. refl)
+root_fields (suc (suc (suc (suc (suc zero))))) h c = by_rows 32 _ (λ f. refl)
+root_fields (suc (suc (suc (suc (suc (suc zero)))))) h c = by_rows 32 _ (λ f. refl)
+root_fields (suc (suc (suc (suc (suc (suc (suc zero))))))) h c = by_rows 32 _ (λ f. refl)
+root_fields (suc (suc (suc (suc (suc (suc (suc (suc i)))))))) h c = absurd (omega arith)
+
+pub root_meant : (ws : List ℕ) (i c : ℕ) → length ws ≡ 32 → i < 8 → register_in (set ws (3 + i) c) ≡ with_counter (register_in ws) i c
+unfolding register_meant register_in
+root_meant ws i c e h =
+    sym (same_meaning (set ws (3 + i) c) (length-set ws (3 + i) c ∙ e)) ∙ ap register_meant (root_fields i h c ws e)
+    ∙ (λ z. record {
+      formatted = (same_meaning ws e z).formatted;
+      levels = (same_meaning ws e z).levels;
+      suite = (same_meaning ws e z).suite;
+      roots = row_set (take 8 (drop 3 ws)) i c (omega (arith, part_length ws e 3 (omega arith))) z;
+      dirty_sum = (same_meaning ws e z).dirty_sum;
+      journal = (same_meaning ws e z).journal;
+      dirty = (same_meaning ws e z).dirty;
+    })
+
+-- A commit's dirty sum, journal and dirty map put among the words.
+pub commit_put : (ws : List ℕ) (sum : ℕ) (j : Entry) (dirty : List ℕ) → length ws ≡ 32 → length j.line.body ≡ 8 → take 22 (with_journal (set ws 11 sum) (Some j)) ++ (dirty ++ drop 32 (with_journal (set ws 11 sum) (Some j))) ≡ with_commit ws sum j dirty
+commit_put ws sum j dirty e h =
+    by_rows 32 (λ w. take 22 (with_journal (set w 11 sum) (Some j)) ++ (dirty ++ drop 32 (with_journal (set w 11 sum) (Some j))) ≡ with_commit w sum j dirty)
+    (λ f. by_rows 8 (λ b. take 22 (with_journal (set (listed 32 f) 11 sum) (Some (entry_of 0 0 0 0 j.at b j.line.tag))) ++ (dirty ++ drop 32 (with_journal (set (listed 32 f) 11 sum) (Some (entry_of 0 0 0 0 j.at b j.line.tag)))) ≡ with_commit (listed 32 f) sum (entry_of 0 0 0 0 j.at b j.line.tag) dirty)
+    (λ g. ap (λ d. take 22 (with_commit (listed 32 f) sum (entry_of 0 0 0 0 j.at (listed 8 g) j.line.tag) []) ++ d) (append-nil dirty)) j.line.body h) ws e
+
+commit_fields : (ws : List ℕ) (sum : ℕ) (j : Entry) (dirty : List ℕ) → length ws ≡ 32 → length j.line.body ≡ 8 → length dirty ≡ 10 → (j.at ≡ no_address → ⊥) → decoded (with_commit ws sum j dirty) ≡ record { formatted = row ws 0; levels = row ws 1; suite = row ws 2; roots = take 8 (drop 3 ws); dirty_sum = sum; journal = Some j; dirty = dirty }
+commit_fields ws sum j dirty e h k n =
+    by_rows 32 (λ w. decoded (with_commit w sum j dirty) ≡ fields (row w 0) (row w 1) (row w 2) sum (take 8 (drop 3 w)) (Some j) dirty)
+    (λ f. by_rows 8 (λ b. decoded (with_commit (listed 32 f) sum (entry_of 0 0 0 0 j.at b j.line.tag) dirty) ≡ fields (f 0) (f 1) (f 2) sum (take 8 (drop 3 (listed 32 f))) (Some (entry_of 0 0 0 0 j.at b j.line.tag)) dirty)
+    (λ g. by_rows 10 (λ d. decoded (with_commit (listed 32 f) sum (entry_of 0 0 0 0 j.at (listed 8 g) j.line.tag) d) ≡ fields (f 0) (f 1) (f 2) sum (take 8 (drop 3 (listed 32 f))) (Some (entry_of 0 0 0 0 j.at (listed 8 g) j.line.tag)) d)
+    (λ x. ap (λ b. fields (f 0) (f 1) (f 2) sum (take 8 (drop 3 (listed 32 f))) (cond b None (Some (entry_of 0 0 0 0 j.at (listed 8 g) j.line.tag))) (listed 10 x)) (ne_eqb j.at no_address n)) dirty k) j.line.body h) ws e
+
+pub commit_meant : (ws : List ℕ) (sum : ℕ) (j : Entry) (dirty : List ℕ) → length ws ≡ 32 → length j.line.body ≡ 8 → length dirty ≡ 10 → (j.at ≡ no_address → ⊥) → length (with_commit ws sum j dirty) ≡ 32 → register_in (with_commit ws sum j dirty) ≡ committed (register_in ws) sum j dirty
+unfolding register_meant register_in
+commit_meant ws sum j dirty e h k n l = sym (same_meaning (with_commit ws sum j dirty) l) ∙ ap register_meant (commit_fields ws sum j dirty e h k n)

@@ -3,6 +3,7 @@ use Rattle.std.specs.Prelude.{◌≡◌, ℕ, ◌-◌, ◌^◌, cond, ◌&&◌, 
 use Rattle.std.proofs.Math.Option.{Option, some, none}
 use Rattle.machine.specs.declared.types.Register.{Register as Fields}
 use Rattle.machine.specs.declared.types.Journal.{Journal as Entry}
+use Rattle.machine.specs.Layout.{update}
 use Rattle.machine.specs.Store.{Journal, Register}
 use Rattle.machine.specs.Words.{row, line_in, no_address, bit}
 
@@ -54,6 +55,36 @@ decoded ws =
 abbrev pub with_journal : List ℕ → Maybe Entry → List ℕ
 with_journal ws None = slice_set ws 12 no_address
 with_journal ws (Some j) = take 13 (slice_set (slice_set ws 12 j.at) 21 j.line.tag) ++ (j.line.body ++ drop 21 (slice_set (slice_set ws 12 j.at) 21 j.line.tag))
+
+-- The words with a commit's dirty sum, journal and dirty map in their places.
+abbrev pub with_commit : List ℕ → ℕ → Entry → List ℕ → List ℕ
+with_commit ws sum j dirty = take 11 ws ++ (sum ∷ (journal_encoded (Some j) ++ dirty))
+
+-- The register with one of the root's counters.
+abbrev pub with_counter : Register → ℕ → ℕ → Register
+with_counter g i c =
+    record {
+      formatted = g.formatted;
+      levels = g.levels;
+      suite = g.suite;
+      roots = update g.roots i c;
+      dirty_sum = g.dirty_sum;
+      journal = g.journal;
+      dirty = g.dirty;
+    }
+
+-- The register with a commit's dirty sum, journal and dirty map.
+abbrev pub committed : Register → ℕ → Entry → List ℕ → Register
+committed g sum j dirty =
+    record {
+      formatted = g.formatted;
+      levels = g.levels;
+      suite = g.suite;
+      roots = g.roots;
+      dirty_sum = sum;
+      journal = journal_meant (Some j);
+      dirty = λ p. nat_le (8 ^ g.levels) p && bit dirty (p - 8 ^ g.levels);
+    }
 
 -- All that 32 words say: where there is no journal, its line counts as zeros.
 abbrev pub said : List ℕ → List ℕ

@@ -1,7 +1,7 @@
 // The register's 32 words and its named fields.
-ghost use Rattle.std.specs.Prelude.{◌≡◌, ℕ, ◌+◌, ◌<◌, ◌≤◌, ◌++◌, length, take, drop};
-ghost use Rattle.machine.specs.Words.{row, register_in, words_of};
-ghost use Rattle.machine.specs.Encoding.{encoded, decoded, journal_decoded, with_journal, said, Real, EightWords, register_meant};
+ghost use Rattle.std.specs.Prelude.{◌≡◌, ℕ, ◌+◌, ◌%◌, ◌<◌, ◌≤◌, ◌++◌, length, take, drop, slice_set};
+ghost use Rattle.machine.specs.Words.{row, no_address, register_in, words_of};
+ghost use Rattle.machine.specs.Encoding.{encoded, decoded, journal_decoded, with_journal, with_commit, with_counter, committed, said, Real, EightWords, register_meant};
 
 use crate::types::{Journal, Register};
 use board::types::Line;
@@ -55,6 +55,25 @@ fn put_journal(words: &mut [u64; 32], journal: &Option<Journal>)
             put(words, 13, &entry.line.body);
         }
     }
+}
+
+// Puts a counter of the root in its place among a register's words. The index counts modulo 8.
+pub fn put_root(words: &mut [u64; 32], index: usize, counter: u64)
+    ensures is { words.new ≡ slice_set words.old (3 + index % 8) counter }
+    ensures meaning { register_in words.new ≡ with_counter (register_in words.old) (index % 8) counter }
+{
+    words[3 + index % 8] = counter;
+}
+
+// Puts what a commit changes beside the root in its place among a register's words: the dirty sum, the journal and the
+// dirty map. The other words stay as they are, which is cheaper than to decode and encode all of them.
+pub fn put_commit(words: &mut [u64; 32], dirty_sum: u64, entry: &Journal, dirty: &[u64; 10])
+    ensures is { words.new ≡ with_commit words.old dirty_sum entry.now dirty.now }
+    ensures meaning { (entry.now.at ≡ no_address → ⊥) → register_in words.new ≡ committed (register_in words.old) dirty_sum entry.now dirty.now }
+{
+    words[11] = dirty_sum;
+    put_journal(words, &Some(*entry));
+    put(words, 22, dirty);
 }
 
 impl Register {

@@ -56,7 +56,7 @@ impl Slots {
         &self.table[..self.used]
     }
 
-    // Where the slot of a node stands.
+    // Where the slot of a node stands: the only search of the slots by address.
     pub(crate) fn find(&self, at: usize) -> Option<usize>
         ensures { Finds self.now at result }
     {
@@ -69,7 +69,7 @@ impl Slots {
     fn slot(&self, at: usize) -> Option<&Slot>
         ensures { MatchOption result (table_in self.now at ≡ none) (λ slot. table_in self.now at ≡ some (slot_in slot.now)) }
     {
-        self.slots_in_use().iter().find(|slot| slot.address == at)
+        Some(&self.table[self.find(at)?])
     }
 
     // Whether a node is dirty.
@@ -91,6 +91,10 @@ impl Slots {
     pub fn counter(&self, at: usize, index: usize) -> Option<u64>
         ensures { Counter (table_in self.now at) index result }
     {
+        // tested first, so that a wrong index costs no search
+        if index >= 8 {
+            return None;
+        }
         self.slot(at)?.counters.get(index).copied()
     }
 
