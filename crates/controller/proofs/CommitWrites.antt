@@ -47,14 +47,14 @@ pub record Prepared (h : ℕ) (m : Meaning) (S : Scheme) (t : Table) (a c : ℕ)
   pub sealed : line_in l ≡ line_at (eight_ary h) S a c b
   pub register : register_in ws ≡ commit_register (eight_ary h) (register_in m.register) (raise_table (eight_ary h) ((eight_ary h).depth (8 ^ h + a / 8)) (memory_in m.lines) t a c) a c (line_in l)
 
--- So are those that the code prepared, s₁ being the slots once the counter is raised and r the register then.
+-- So are those that the code prepared, s₁ being the slots once the counter is raised and r the register's words then.
 pub prepared : (s s₁ : Slots) {m : Meaning} (F : Fits s.layout.levels m) {S : Scheme} {a c : ℕ} {b : Body} (k : a < lines_of s.layout.levels) {l : Line} (y : Layout) (e : y ≡ s.layout) (q : line_in l ≡ line_at (shape_in y) S a c b)
-    (ms : List ℕ) {ws : List ℕ} (r : List ℕ) {sum : ℕ} (table : table_in s₁ ≡ raised_slots (shape_in s.layout) (memory_in m.lines) (table_in s) a c) (raised : register_in r ≡ with_root (shape_in s.layout) a c (register_in m.register)) (layout : s₁.layout ≡ s.layout)
+    (ms : List ℕ) {ws : List ℕ} (r : List ℕ) {sum : ℕ} (table : table_in s₁ ≡ raised_slots (shape_in s.layout) (memory_in m.lines) (table_in s) a c) {ws₀ : List ℕ} (words : ws₀ ≡ m.register) (raised : register_in r ≡ with_root (shape_in s.layout) a c (register_in ws₀)) (layout : s₁.layout ≡ s.layout)
     (w : (a ≡ no_address → ⊥) → register_in ws ≡ committed (register_in r) sum (record { at = a; line = l }) ms) (f : sum ≡ sum_of (shape_in s₁.layout) (table_in s₁)) (g : map_in s₁.layout.levels ms ≡ (λ p. is_dirty (table_in s₁ p))) → Prepared s.layout.levels m S (table_in s) a c b l ws
-prepared s s₁ {m} F {S} {a} {c} {b} k {l} y e q ms {ws} r {sum} table raised layout w f g =
+prepared s s₁ {m} F {S} {a} {c} {b} k {l} y e q ms {ws} r {sum} table words raised layout w f g =
     record {
       sealed = q ∙ ap (λ (z : Layout). line_at (shape_in z) S a c b) e;
-      register = w (real s.layout.levels m F S (table_in s) a c k) ∙ register_is s.layout.levels m F S (table_in s) a c k (register_in r) l ms sum (table_in s₁) raised table
+      register = w (real s.layout.levels m F S (table_in s) a c k) ∙ register_is s.layout.levels m F S (table_in s) a c k (register_in r) l ms sum (table_in s₁) (raised ∙ ap (λ x. with_root (shape_in s.layout) a c (register_in x)) words) table
           (f ∙ ap (λ (z : Layout). sum_of (shape_in z) (table_in s₁)) layout) (ap (λ (z : Layout). map_in z.levels ms) (sym layout) ∙ g);
     }
 

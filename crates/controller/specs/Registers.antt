@@ -23,10 +23,10 @@ with_root T a c g =
       dirty = g.dirty;
     }
 
--- The same in words, as an answer that is never a fault.
-abbrev pub RegisterRaised : Shape → ℕ → ℕ → Register → Result (List ℕ) LineFault → Type 0
-RegisterRaised T a c g (Ok ws) = register_in ws ≡ with_root T a c g
-RegisterRaised T a c g (Err f) = ⊥
+-- The same in words, by a step that is never refused.
+abbrev pub RegisterRaised : Shape → ℕ → ℕ → Register → Result (Unit {0}) LineFault → List ℕ → Type 0
+RegisterRaised T a c g (Ok u) ws = register_in ws ≡ with_root T a c g
+RegisterRaised T a c g (Err f) ws = ⊥
 
 -- The slots with the counter of line a, where a node is its parent.
 abbrev pub raised_slots : Shape → (ℕ → Line) → Table → ℕ → ℕ → Table

@@ -39,30 +39,30 @@ pub(crate) fn sealed_line<S: Suite>(
     seal_node(suite, nonce, words)
 }
 
-// Raises the counter of line `at`: in its parent's slot, or in the register's words, which come back.
+// Raises the counter of line `at`: in its parent's slot, or in the register's words.
 // It takes the board and the slots apart, since only the slots change.
 fn raise_at<B: Board>(
     board: &B,
     slots: &mut Slots,
     at: usize,
     counter: u64,
-) -> Result<[u64; 32], LineFault>
+    register: &mut [u64; 32],
+) -> Result<(), LineFault>
     requires place { (Fits slots.old.layout.levels (B.Board.meaning board.now)) × ((at < (shape_in slots.old.layout).lines) × (counter ≤ counter_limit)) }
     requires room { (RoomAt (shape_in slots.old.layout) at slots.old.used (table_in slots.old)) × (SmallAt (shape_in slots.old.layout) at (view_in (B.Board.meaning board.now) (table_in slots.old))) }
     ensures table { table_in slots.new ≡ raised_slots (shape_in slots.old.layout) (memory_in (B.Board.meaning board.now).lines) (table_in slots.old) at counter }
-    ensures register { RegisterRaised (shape_in slots.old.layout) at counter (register_in (B.Board.meaning board.now).register) result }
+    ensures register { RegisterRaised (shape_in slots.old.layout) at counter (register_in register.old) result register.new }
     ensures layout { slots.new.layout ≡ slots.old.layout }
 {
     let layout = slots.layout();
-    let mut words = board.read_register();
     let parent = layout.parent(at);
     if parent >= layout.lines() {
-        put_root(&mut words, layout.index(at), counter);
-        return Ok(words);
+        put_root(register, layout.index(at), counter);
+        return Ok(());
     }
     let fresh = line_of(board, parent)?.body;
     let _ = slots.raise(parent, layout.index(at), counter, &fresh);
-    Ok(words)
+    Ok(())
 }
 
 impl<B: Board, S: Suite> Open<B, S> {
@@ -96,7 +96,14 @@ impl<B: Board, S: Suite> Open<B, S> {
         ensures rest { Rest self.old.suite self.old.chip self.new.suite self.new.chip }
     {
         let line = sealed_line(&self.suite, self.chip.slots.layout(), at, words, counter);
-        let mut register = raise_at(&self.board, &mut self.chip.slots, at, counter)?;
+        let mut register = self.board.read_register();
+        raise_at(
+            &self.board,
+            &mut self.chip.slots,
+            at,
+            counter,
+            &mut register,
+        )?;
         let entry = Journal {
             at: at as u64,
             line,

@@ -1,4 +1,4 @@
-use Rattle.std.proofs.Common.{ap, arith}
+use Rattle.std.proofs.Common.{refl, arith}
 use Rattle.machine.specs.Words.{register_in}
 use Rattle.controller.proofs.CommitParts.{raise_node, register_node, register_root}
 use Rattle.controller.proofs.commit.raise_at.Goals as goal
@@ -9,7 +9,7 @@ returns-then-parent-lines-clause-register g c =
     let m = g.B.Board.meaning c.args.board.now in
     let p = c.parent-parent.result in
     register_root s m c.layout-layout.result c.layout-layout.ensures c.args.at p c.index.result c.lines.result c.args.counter c.parent-parent.ensures c.index.ensures.value c.lines.ensures.value
-    c.read_register-words.result (register_in m.register) (ap register_in c.read_register-words.ensures) (omega (arith, c.if-parent-lines.true)) c.put_root.new.words c.put_root.ensures.meaning
+    c.args.register.now (register_in c.args.register.now) refl (omega (arith, c.if-parent-lines.true)) c.put_root.new.words c.put_root.ensures.meaning
 
 pub returns : goal.returns
 returns g c =
@@ -23,6 +23,6 @@ returns g c =
       table = d.0;
       register =
           register_node s m c.layout-layout.result c.layout-layout.ensures c.args.at p c.index-2.result c.lines.result c.args.counter c.parent-parent.ensures c.index-2.ensures.value c.lines.ensures.value
-          c.read_register-words.result (register_in m.register) (ap register_in c.read_register-words.ensures) (omega arith);
+          c.args.register.now (register_in c.args.register.now) refl (omega arith);
       layout = d.1;
     }
