@@ -34,7 +34,7 @@ fn top_of_word(i: usize, word: u64, below: usize) -> Option<usize>
     ensures { TopOfWord i word below result }
 {
     let first = 64 * i;
-    let room = below.saturating_sub(first).min(64) as u32;
+    let room = below.checked_sub(first)?.min(64) as u32;
     Some(first + top_bit(word, room)? as usize)
 }
 

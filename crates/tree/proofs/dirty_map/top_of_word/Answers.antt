@@ -7,6 +7,10 @@ pub returns : goal.returns
 unfolding TopOfWord
 returns c = grind (arith, common_steps)
 
+pub returns-in_err-checked_sub : goal.returns-in_err-checked_sub
+unfolding TopOfWord
+returns-in_err-checked_sub c = grind (arith, common_steps, c.in_err-checked_sub.ensures, c.from_residual.ensures)
+
 pub returns-in_err-top_bit : goal.returns-in_err-top_bit
 unfolding TopOfWord
-returns-in_err-top_bit c = grind (arith, common_steps, c.in_err-top_bit.ensures, c.from_residual.ensures)
+returns-in_err-top_bit c = grind (arith, common_steps, c.in_err-top_bit.ensures, c.from_residual-in_err-top_bit.ensures)
