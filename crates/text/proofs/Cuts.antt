@@ -1,6 +1,6 @@
 -- Texts cut at a byte.
-use Rattle.std.proofs.Common.{◌≡◌, ℕ, suc, ◌+◌, ◌≤◌, Bool, true, false, eqb, cond, List, [], ◌∷◌, ◌++◌, length, drop, Some, None, Option, Bor, sym, refl, ap, ◌∙◌, subst, inl, inr, append_assoc, append-nil, arith, rules}
-use Rattle.std.proofs.lemmas.List.{drop_all, length_push, drop_at}
+use Rattle.std.proofs.Common.{◌≡◌, ℕ, suc, ◌+◌, ◌<◌, ◌≤◌, Bool, true, false, eqb, cond, List, [], ◌∷◌, ◌++◌, length, drop, Some, None, Option, Bor, sym, refl, ap, ◌∙◌, subst, inl, inr, append_assoc, append-nil, arith, rules}
+use Rattle.std.proofs.lemmas.List.{drop_all, length_push, length-drop, drop_at}
 use Rattle.std.specs.Option.{option_map, unwrap_or}
 use Rattle.text.specs.Spelling.{Reads, Behind, Digit, Decimal, before_lines, lines_of, FirstLine}
 use Rattle.text.specs.Taking.{Stops, Lacks, Cut}
@@ -69,6 +69,11 @@ line_up_to t l r None c some h = line_whole t l r.now c.split (nothing c.stops) 
     nothing : Stops 10 r.now → r.now ≡ []
     nothing (inl e) = e
     nothing (inr (u, e)) = absurd (h u e)
+
+-- what is behind a line is shorter
+pub line_shorter : (t l b : List ℕ) → FirstLine t (Some (l, b)) → length b < length t
+line_shorter [] l b h = let e = h.0 in let z : ◌≡◌ {A = ℕ} 0 1 = cc in omega arith
+line_shorter (c ∷ t) l b h = omega (arith, ap length h.1, length-drop (length l + 1) (c ∷ t))
 
 -- a text has no more lines than bytes
 before_lines_within : (c : ℕ) (ls : List (List ℕ)) → length (before_lines c ls) ≤ length ls + 1

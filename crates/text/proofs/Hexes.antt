@@ -36,6 +36,9 @@ module _ (t : List ℕ) (long : 2 ≤ length t) where
 whole : (t : List ℕ) (a : ℕ) (rest : List ℕ) (f : Front HexByte Any t a rest) → t ≡ f.spells.0 ∷ f.spells.1 ∷ rest
 whole t a rest f = f.split ∙ ap (λ (x : List ℕ). x ++ rest) f.spells.4
 
+pub byte_short : (t : List ℕ) → length t < 2 → (a : ℕ) (rest : List ℕ) → Front HexByte Any t a rest → ⊥
+byte_short t h a rest f = omega (arith, ap length (whole t a rest f))
+
 pub byte_no_high : (t : List ℕ) → ((v : ℕ) → Hex (get_or t 0 0) v → ⊥) → (a : ℕ) (rest : List ℕ) → Front HexByte Any t a rest → ⊥
 byte_no_high t bad a rest f = bad _ (subst (λ x. Hex x f.spells.2) (sym (ap (λ (x : List ℕ). get_or x 0 0) (whole t a rest f))) f.spells.5)
 

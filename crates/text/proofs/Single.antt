@@ -1,7 +1,7 @@
 -- What numbers and keys are spelled by is theirs alone.
-use Rattle.std.proofs.Common.{ℕ, List, [], sym, refl, ◌∙◌, subst, inl}
+use Rattle.std.proofs.Common.{◌≡◌, ℕ, List, [], Some, None, Option, sym, refl, ap, ◌∙◌, subst, inl}
 use Rattle.std.proofs.lemmas.List.{append_cancel_left}
-use Rattle.text.specs.Spelling.{Unambiguous, After, Decimal, Spaced, Numbers, Keys}
+use Rattle.text.specs.Spelling.{Reads, Unambiguous, After, Decimal, Spaced, Numbers, Keys}
 use Rattle.text.specs.Taking.{Stops}
 use Rattle.text.proofs.Pieces.{each_taken_all, taken_same}
 use Rattle.text.proofs.Decimals.{spaced_same, spaced_first}
@@ -22,3 +22,10 @@ keys_once t a b h k =
 
 pub after_once : {A : Type 0} (p : List ℕ) (Spells : List ℕ → A → Type 0) → Unambiguous Spells → Unambiguous (After p Spells)
 after_once p Spells once t a b h k = once k.0 a b (subst (λ (x : List ℕ). Spells x a) (append_cancel_left p h.0 k.0 (sym h.1 ∙ k.1)) h.2) k.2
+
+-- so a reader has one answer
+pub reads_once : {A : Type 0} (Spells : List ℕ → A → Type 0) → Unambiguous Spells → (t : List ℕ) (r s : Option A) → Reads Spells t r → Reads Spells t s → r ≡ s
+reads_once Spells once t (Some a) (Some b) h k = ap Some (once t a b h k)
+reads_once Spells once t (Some a) None h k = absurd (k a h)
+reads_once Spells once t None (Some b) h k = absurd (h b k)
+reads_once Spells once t None None h k = refl
