@@ -86,7 +86,7 @@ module _ (h : ℕ) (ss : List Slot) (used i n at : ℕ) (T : Ordered h ss used) 
   there : (x : ℕ) → (x ≡ i → ⊥) → get_or rest x no_slot ≡ get_or ss x no_slot
   there x d = get_or-set_other ss i x (get_or ss n no_slot) no_slot d
 
-  ordered_out : Ordered h rest n
+  pub ordered_out : Ordered h (set ss i (get_or ss n no_slot)) n
   ordered_out =
       record {
         fit = grind (arith, common_steps);

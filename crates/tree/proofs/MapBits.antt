@@ -1,8 +1,9 @@
 -- The dirty map of the slots, one bit at a time.
 use Rattle.std.proofs.Common.{w64, ◌≡◌, ℕ, zero, suc, ◌+◌, ◌-◌, ◌/◌, ◌%◌, ◌^◌, ◌<◌, ◌≤◌, Bool, true, false, ◌&&◌, eqb, leb, ◌⊎◌, List, length, get_or, replicate, sym, refl, ap, ◌∙◌, inl, inr, arith}
 use mathlib.Core.Option.{some}
+use lib.Bits.{bit_or}
 use Rattle.std.specs.Int.{bit_at}
-use Rattle.std.proofs.lemmas.Nat.Bits.{bit_at-zero, bit_at_set_same, bit_at_set_other}
+use Rattle.std.proofs.lemmas.Nat.Bits.{bit_at-zero, bit_at-lt, bit_at-pow_same, bit_at-pow_other, bit_at_or, bit_at_set_same, bit_at_set_other}
 use Rattle.std.proofs.lemmas.Bool.{cases_eq, le-leb, lt-leb, cases_lt}
 use Rattle.std.proofs.lemmas.List.{get_or-set_same, get_or-set_other}
 use Rattle.machine.specs.Layout.{update}
@@ -16,6 +17,12 @@ use Rattle.tree.specs.Tables.{slot_in, no_slot, rows_in}
 use Rattle.tree.specs.SlotTable.{map_in}
 use Rattle.tree.specs.DirtyMap.{with_bit}
 use Rattle.tree.proofs.InOrder.{Ordered}
+
+pub or_same : (x k : ℕ) → bit_or x (2 ^ k) / 2 ^ k % 2 ≡ 1
+or_same x k = omega (arith, bit_at_or x (2 ^ k) k, bit_at-pow_same k, bit_at-lt x k)
+
+pub or_other : (x k q : ℕ) → (k ≡ q → ⊥) → bit_or x (2 ^ k) / 2 ^ q % 2 ≡ x / 2 ^ q % 2
+or_other x k q d = omega (arith, bit_at_or x (2 ^ k) q, bit_at-pow_other k q (λ e. d (sym e)))
 
 zero_at : (n x : ℕ) → ◌≡◌ {A = ℕ} (get_or (replicate n 0) x 0) 0
 zero_at zero zero = refl

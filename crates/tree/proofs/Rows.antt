@@ -1,12 +1,14 @@
 -- Slots in a row, as a table by address.
-use Rattle.std.proofs.Common.{◌≡◌, ℕ, zero, suc, ◌<◌, ◌≤◌, cond, eqb, List, [], ◌∷◌, length, get_or, take, set, sym, refl, ap, ◌∙◌, arith}
+use Rattle.std.proofs.Common.{◌≡◌, ℕ, zero, suc, ◌+◌, ◌<◌, ◌≤◌, cond, eqb, List, [], ◌∷◌, length, get_or, take, set, sym, refl, ap, ◌∙◌, arith}
 use mathlib.Core.Path.{fun_ext}
 use mathlib.Core.Option.{some, none}
 use Rattle.std.proofs.lemmas.Bool.Decides.{nat_tests}
 use Rattle.std.proofs.lemmas.Bool.{eq-eqb, ne_eqb}
+use Rattle.std.proofs.lemmas.List.{get_or-set_same, get_or-set_other}
 use Rattle.tree.specs.declared.types.Slot.{Slot}
 use Rattle.machine.specs.Layout.{update}
 use Rattle.machine.specs.Plans.{Slot as DirtyNode, raised}
+use Rattle.suite.specs.Words.{row}
 use Rattle.tree.specs.Tables.{slot_in, no_slot, row_of, rows_in}
 use Rattle.tree.specs.SlotTable.{slot_or}
 
@@ -38,6 +40,17 @@ unfolding rows_in
 table_push [] used at s n e g q = absurd (omega arith)
 table_push (x ∷ ss) zero at s n e g q = ap (λ a. cond (eqb q a) (some (slot_in s)) none) g
 table_push (x ∷ ss) (suc used) at s n e g q = grind (arith, nat_tests, (λ (y : row_of (take used ss) at ≡ none). table_push ss used at s (omega arith) y g q))
+
+-- Words with one changed, as a function.
+pub row_set : (ws : List ℕ) (i x : ℕ) → i < length ws → row (set ws i x) ≡ update (row ws) i x
+row_set ws i x h = fun_ext (λ k. grind (arith, nat_tests, get_or-set_same ws i x 0 h, get_or-set_other ws i k x 0))
+
+-- A slot raised in place.
+pub slot_raised : (ws : List ℕ) (i c n : ℕ) → i < length ws → ◌≡◌ {A = DirtyNode} (record { counters = row (set ws i c); pending = n + 1 }) (raised (record { counters = row ws; pending = n }) i c)
+slot_raised ws i c n h = λ j. record { counters = row_set ws i c h j; pending = plus j }
+  where
+    plus : n + 1 ≡ suc n
+    plus = omega arith
 
 -- What raising does to the table.
 module _ (ss : List Slot) (used at index counter : ℕ) (n : used ≤ length ss) where
