@@ -1,6 +1,6 @@
 use Rattle.std.proofs.Common.{arith}
-use Rattle.board.proofs.Windows.{window_shows}
+use Rattle.board.proofs.Windows.{window_at}
 use Rattle.board.proofs.window.Window.place.Goals as goal
 
 pub returns : goal.returns
-returns g c = window_shows _ _ _ _ (omega (arith, c.shown.ensures.count))
+returns g c = window_at _ _ _ _ (omega (arith, c.shown.ensures.count))
