@@ -1,7 +1,8 @@
 -- The current counter of a line, one step at a time.
-use Rattle.std.proofs.Common.{◌≡◌, ℕ, ◌+◌, ◌/◌, ◌%◌, ◌^◌, ◌<◌, ◌≤◌, Bool, true, false, cond, List, get_or, sym, refl, ap, ◌∙◌, subst, arith}
+use Rattle.std.proofs.Common.{◌≡◌, ℕ, ◌+◌, ◌/◌, ◌%◌, ◌^◌, ◌<◌, ◌≤◌, Bool, true, false, cond, List, get_or, drop, sym, refl, ap, ◌∙◌, subst, arith}
 use mathlib.Core.Option.{Option, some, none}
 use Rattle.std.proofs.lemmas.Bool.{both_ways}
+use Rattle.std.proofs.lemmas.List.{get_or-take, get_or-drop}
 use Rattle.suite.specs.Scheme.{Scheme}
 use Rattle.board.specs.Meaning.{Meaning}
 use Rattle.machine.specs.Layout.{Shape, TreeLaws, eight_ary, lines_of}
@@ -33,6 +34,10 @@ pub valid_is : (h : ℕ) (S : Scheme) (ls : List Line) (p c : ℕ) → node_vali
 unfolding node_valid all_within
 valid_is h S ls p c = refl
 
+pub root_word : (ws : List ℕ) (i : ℕ) → i < 8 → (register_in ws).roots i ≡ get_or ws (3 + i) 0
+unfolding register_in
+root_word ws i k = get_or-take 8 (drop 3 ws) i 0 k ∙ get_or-drop 3 ws i 0
+
 module _ (h : ℕ) (m : Meaning) (F : Fits h m) (S : Scheme) (t : Table) (a p i : ℕ) (k : a < lines_of h) (q : p ≡ 8 ^ h + a / 8) (j : i ≡ a % 8) where
   abbrev v : View
   v = view_in m t
@@ -43,9 +48,14 @@ module _ (h : ℕ) (m : Meaning) (F : Fits h m) (S : Scheme) (t : Table) (a p i 
   pub parent_above : a < p
   parent_above = omega (arith, q, L.parent_above a k)
 
-  pub from_root : lines_of h ≤ p → (r : Fields) → register_meant r ≡ register_in m.register → ok (get_or r.roots i 0) ≡ counter_of (eight_ary h) S v a
+  pub from_root : lines_of h ≤ p → (ws : List ℕ) → ws ≡ m.register → ok (get_or ws (3 + i) 0) ≡ counter_of (eight_ary h) S v a
+  from_root n ws e =
+      ap (λ x. ok (get_or ws (3 + x) 0)) j
+      ∙ sym (counter_root (eight_ary h) L S v a k (subst (λ x. lines_of h ≤ x) q n) ∙ ap ok (root_word m.register (a % 8) (omega arith) ∙ ap (λ w. get_or w (3 + a % 8) 0) (sym e)))
+
+  pub from_root_field : lines_of h ≤ p → (r : Fields) → register_meant r ≡ register_in m.register → ok (get_or r.roots i 0) ≡ counter_of (eight_ary h) S v a
   unfolding register_meant
-  from_root n r e =
+  from_root_field n r e =
       ap (λ x. ok (get_or r.roots x 0)) j
       ∙ ap (λ (g : Register). ok (g.roots (a % 8))) e ∙ sym (counter_root (eight_ary h) L S v a k (subst (λ x. lines_of h ≤ x) q n))
 

@@ -1,5 +1,5 @@
 -- What a writing call did, from what came of its run.
-use Rattle.std.proofs.Common.{◌≡◌, ℕ, ◌^◌, ◌≤◌, length, None, Ok, Err, Option as Maybe, Result, sym, refl, ap, ◌∙◌, subst, arith}
+use Rattle.std.proofs.Common.{◌≡◌, ℕ, ◌^◌, ◌≤◌, length, Some, None, Ok, Err, Option as Maybe, Result, sym, refl, ap, ◌∙◌, subst, arith}
 use mathlib.Core.Option.{Option, some, none}
 use Rattle.board.specs.declared.types.BoardFault.{BoardFault}
 use Rattle.board.specs.declared.types.BoardFault.TheVariants.{Absent, PowerLost}
@@ -18,7 +18,7 @@ use Rattle.machine.specs.History.{World, Answer, refused, read_answer, Ran}
 use Rattle.machine.proofs.Cuts.{cut_le}
 use Rattle.machine.proofs.EightAry.{eight_trees}
 use Rattle.machine.proofs.Steps.{write_outside}
-use Rattle.controller.specs.Views.{controller_says, view_in, Fits}
+use Rattle.controller.specs.Views.{fault_of, controller_says, view_in, Fits}
 use Rattle.controller.specs.Runs.{Went, ended}
 use Rattle.controller.specs.Worlds.{world_by, report_by, latch_of, commits_of, call_check, RunsAs, read_by}
 use Rattle.controller.proofs.Chains.{said_none, kept_whole}
@@ -50,7 +50,18 @@ reported : (z : Result (Unit {0}) Fault) (k : ℕ) → commits_of (report_by z k
 reported (Ok u) k e = e
 reported (Err f) k e = e
 
+module _ (S : Scheme) (m : Meaning) (n : ℕ) (t : Table) (lv used : ℕ) (s : Maybe Fault) (r : Run) where
+  -- A latched fault.
+  pub does_latched : (f : Fault) → s ≡ Some f → RunsAs s (call_check m lv used) m n t r (refused (fault_of f) 0) m (world_by m s n t)
+  does_latched f e = subst (λ (x : Maybe Fault). RunsAs x (call_check m lv used) m n t r (refused (fault_of f) 0) m (world_by m x n t)) (sym e) (refl, refl, refl)
+
 module _ (S : Scheme) (m : Meaning) (n : ℕ) (t : Table) (lv used : ℕ) (s : Maybe Fault) (r : Run) (p : s ≡ None) where
+  -- A fault before the steps.
+  pub does_refused : (f : Fault) → call_check m lv used ≡ some (fault_of f) → RunsAs s (call_check m lv used) m n t r (refused (fault_of f) 0) m (world_by m s n t)
+  does_refused f q =
+      subst (λ (x : Maybe Fault). RunsAs x (call_check m lv used) m n t r (refused (fault_of f) 0) m (world_by m x n t)) (sym p)
+      (subst (λ (o : Option Why). RunsAs None o m n t r (refused (fault_of f) 0) m (world_by m None n t)) (sym q) (refl, refl, refl))
+
   does_run : call_check m lv used ≡ none → (x : Answer) (m' : Meaning) (w' : World) → ((l : Log) → (l' : Log) × Ran n r (state_in m) l x w' l') × (commits_of x ≡ 0 → m'.register ≡ m.register) → RunsAs s (call_check m lv used) m n t r x m' w'
   does_run q x m' w' f = subst (λ (y : Maybe Fault). RunsAs y (call_check m lv used) m n t r x m' w') (sym p) (subst (λ (o : Option Why). RunsAs None o m n t r x m' w') (sym q) f)
 

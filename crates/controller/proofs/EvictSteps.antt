@@ -1,5 +1,5 @@
 -- Evicting a node, one step at a time.
-use Rattle.std.proofs.Common.{◌≡◌, ℕ, zero, suc, ◌+◌, ◌/◌, ◌%◌, ◌^◌, ◌<◌, ◌≤◌, Bool, true, false, cond, leb, nat_lt, ◌⊎◌, sym, refl, ap, ◌∙◌, subst, inl, inr, arith}
+use Rattle.std.proofs.Common.{◌≡◌, ℕ, zero, suc, ◌+◌, ◌/◌, ◌%◌, ◌^◌, ◌<◌, ◌≤◌, Bool, true, false, cond, eqb, leb, nat_lt, ◌⊎◌, sym, refl, ap, ◌∙◌, subst, inl, inr, arith}
 use mathlib.Core.Option.{Option, some, none}
 use Rattle.std.proofs.lemmas.Bool.{lt-ltb, le-ltb, leb-true, leb-false, and_parts, both_ways, cases_Bool, cases_lt}
 use Rattle.suite.specs.Scheme.{Body, Scheme, right}
@@ -90,14 +90,11 @@ module _ (h : ℕ) (S : Scheme) (m : Meaning) (t : Table) (a : ℕ) where
         at (some s) y = leb-false 1023 s.pending y
         at none y = n
 
-    pub small_after : (c : ℕ) → ok c ≡ next_counter a (counter_of (eight_ary h) S v a) → (t' : Table) → t' ≡ update t a none → SmallAt (eight_ary h) a (view_in m t')
+    pub small_after : (c : ℕ) → ok c ≡ counter_of (eight_ary h) S v a → (t' : Table) → t' ≡ update t a none → SmallAt (eight_ary h) a (view_in m t')
     unfolding node_valid
     small_after c e t' f x y j z = leb-true ((memory_in m.lines (8 ^ h + a / 8)).words j) counter_limit (every_at 8 (λ i. leb ((memory_in m.lines (8 ^ h + a / 8)).words i) counter_limit) (and_parts (right S (8 ^ h + a / 8) fine.0 (memory_in m.lines (8 ^ h + a / 8))) (every 8 (λ i. leb ((memory_in m.lines (8 ^ h + a / 8)).words i) counter_limit)) fine.1).1 j z)
       where
-        now : (d : ℕ) × (ok d ≡ counter_of (eight_ary h) S v a)
-        now = (next_within a c (counter_of (eight_ary h) S v a) e).1
-
-        from : (r : Outcome ℕ) → ok now.0 ≡ in_line (eight_ary h) S (memory_in m.lines) (8 ^ h + a / 8) (a % 8) r → (d : ℕ) × (node_valid (eight_ary h) S (memory_in m.lines) (8 ^ h + a / 8) d ≡ true)
+        from : (r : Outcome ℕ) → ok c ≡ in_line (eight_ary h) S (memory_in m.lines) (8 ^ h + a / 8) (a % 8) r → (d : ℕ) × (node_valid (eight_ary h) S (memory_in m.lines) (8 ^ h + a / 8) d ≡ true)
         from (ok d) g = (d, go (cases_Bool (node_valid (eight_ary h) S (memory_in m.lines) (8 ^ h + a / 8) d)))
           where
             go : (node_valid (eight_ary h) S (memory_in m.lines) (8 ^ h + a / 8) d ≡ true) ⊎ (node_valid (eight_ary h) S (memory_in m.lines) (8 ^ h + a / 8) d ≡ false) → node_valid (eight_ary h) S (memory_in m.lines) (8 ^ h + a / 8) d ≡ true
@@ -106,7 +103,11 @@ module _ (h : ℕ) (S : Scheme) (m : Meaning) (t : Table) (a : ℕ) where
         from (err r) g = absurd (err≢ok (sym g))
 
         fine : (d : ℕ) × (node_valid (eight_ary h) S (memory_in m.lines) (8 ^ h + a / 8) d ≡ true)
-        fine = from (counter_of (eight_ary h) S v (8 ^ h + a / 8)) (now.1 ∙ counter_node (eight_ary h) L S v a k x ∙ ap (λ o. held o (a % 8) (in_line (eight_ary h) S (memory_in m.lines) (8 ^ h + a / 8) (a % 8) (counter_of (eight_ary h) S v (8 ^ h + a / 8)))) (sym (parent_kept t' f) ∙ y))
+        fine = from (counter_of (eight_ary h) S v (8 ^ h + a / 8)) (e ∙ counter_node (eight_ary h) L S v a k x ∙ ap (λ o. held o (a % 8) (in_line (eight_ary h) S (memory_in m.lines) (8 ^ h + a / 8) (a % 8) (counter_of (eight_ary h) S v (8 ^ h + a / 8)))) (sym (parent_kept t' f) ∙ y))
+
+    -- The next counter comes after a current one.
+    pub next_small_after : (c : ℕ) → ok c ≡ next_counter a (counter_of (eight_ary h) S v a) → (t' : Table) → t' ≡ update t a none → SmallAt (eight_ary h) a (view_in m t')
+    next_small_after c e = let now = (next_within a c (counter_of (eight_ary h) S v a) e).1 in small_after now.0 now.1
 
     pub left_after : (t' : Table) → t' ≡ update t a none → (b : Body) (c : ℕ) (o : Option Fault) (m'' : Meaning) (t'' : Table) (n n' : ℕ) → Went (commit_under (eight_ary h) S (memory_in m.lines) (register_in m.register) t' a b c) m o m'' t'' n n' → LeftSlot (eight_ary h) a t o t''
     left_after t' f b c o m'' t'' n n' w e q x =
@@ -142,6 +143,19 @@ module _ (h : ℕ) (S : Scheme) (m : Meaning) (t : Table) (a : ℕ) (F : Fits h 
           ap (λ o. and_then (cond (overdue o) (evict (eight_ary h) S (view_in m t) p) (stay (view_in m t))) (λ u. evict_now (eight_ary h) S u a)) (f n)
           ∙ sym (evict_under_root (eight_ary h) (eight_trees h F.low F.high) a S (view_in m t) (omega (arith, q, (eight_trees h F.low F.high).parent_in a k)))
 
+  pub evict_first : p < lines_of h → true ≡ overdue (t p) → and_then (evict (eight_ary h) S (view_in m t) p) (λ u. evict_now (eight_ary h) S u a) ≡ evict (eight_ary h) S (view_in m t) a
+  evict_first n o =
+      ap (λ x. and_then (evict (eight_ary h) S (view_in m t) x) (λ u. evict_now (eight_ary h) S u a)) q
+      ∙ ap (λ b. cond b (and_then (evict (eight_ary h) S (view_in m t) (8 ^ h + a / 8)) (λ u. evict_now (eight_ary h) S u a)) (evict_now (eight_ary h) S (view_in m t) a)) (o ∙ ap (λ x. overdue (t x)) q)
+      ∙ sym (evict_under_node (eight_ary h) (eight_trees h F.low F.high) a S (view_in m t) (subst (λ x. x < lines_of h) q n))
+
+  pub evict_only : (p < lines_of h → overdue (t p) ≡ false) → evict_now (eight_ary h) S (view_in m t) a ≡ evict (eight_ary h) S (view_in m t) a
+  evict_only f = go (cases_lt p (lines_of h))
+    where
+      go : (p < lines_of h) ⊎ (lines_of h ≤ p) → evict_now (eight_ary h) S (view_in m t) a ≡ evict (eight_ary h) S (view_in m t) a
+      go (inl n) = ap (λ b. cond b (and_then (evict (eight_ary h) S (view_in m t) (8 ^ h + a / 8)) (λ u. evict_now (eight_ary h) S u a)) (evict_now (eight_ary h) S (view_in m t) a)) (sym (f n) ∙ ap (λ x. overdue (t x)) q) ∙ sym (evict_under_node (eight_ary h) (eight_trees h F.low F.high) a S (view_in m t) (subst (λ x. x < lines_of h) q n))
+      go (inr n) = sym (evict_under_root (eight_ary h) (eight_trees h F.low F.high) a S (view_in m t) (omega (arith, q, (eight_trees h F.low F.high).parent_in a k)))
+
 -- An evicted node is not overdue, and below it the slots are those of before.
 module _ (h a : ℕ) (m : Meaning) (F : Fits h m) (k : a < lines_of h) (t t' : Table) (o : Option Fault) (O : LeftSlot (eight_ary h) a t o t') where
   pub left_rested : o ≡ none → overdue (t' a) ≡ false
@@ -149,6 +163,17 @@ module _ (h a : ℕ) (m : Meaning) (F : Fits h m) (k : a < lines_of h) (t t' : T
 
   pub left_below : SameBelow a t o t'
   left_below e q n = O e q (omega (arith, (eight_trees h F.low F.high).parent_above a k)) ∙ update_other t a none q (λ x. omega arith)
+
+-- After the parent the node is as dirty as before, the parent's slot is not overdue, and the node leaves of the slots what it alone leaves.
+module _ (h : ℕ) (S : Scheme) (m : Meaning) (t : Table) (a : ℕ) (F : Fits h m) (k : a < lines_of h) (p : ℕ) (q : p ≡ 8 ^ h + a / 8) (t₁ : Table) (O : LeftSlot (eight_ary h) p t none t₁) (j : p < lines_of h) where
+  pub still_dirty : is_dirty (t a) ≡ true → is_dirty (t₁ a) ≡ true
+  still_dirty e = ap is_dirty (left_below h p m F j t t₁ none O refl a (above F k q)) ∙ e
+
+  pub evicted_rested : overdue (t₁ (8 ^ h + a / 8)) ≡ false
+  evicted_rested = ap (λ x. overdue (t₁ x)) (sym q) ∙ left_rested h p m F j t t₁ none O refl
+
+  pub left_both : (o : Option Fault) (t₂ : Table) → LeftSlot (eight_ary h) a t₁ o t₂ → LeftSlot (eight_ary h) a t o t₂
+  left_both o t₂ P e x n = P e x n ∙ ap (λ z. cond (eqb x a) none z) (left_below h p m F j t t₁ none O refl x (omega (arith, q)))
 
 -- The way to a counter is refused by corrupt lines only.
 counter_at_corrupt : (h : ℕ) (S : Scheme) (v : View) (r a : ℕ) (x : Fault) → err x ≡ counter_at (eight_ary h) S v r a → x.cause ≡ corrupt

@@ -1,7 +1,7 @@
 -- Turns of evicting the lowest node.
 use Rattle.std.proofs.Common.{◌≡◌, ℕ, zero, suc, ◌+◌, ◌/◌, ◌^◌, ◌<◌, ◌-◌, ◌*◌, ◌≤◌, true, false, cond, leb, ◌⊎◌, sym, refl, ap, ◌∙◌, subst, inl, inr, arith}
 use mathlib.Core.Option.{Option, some, none}
-use Rattle.std.proofs.lemmas.Bool.{le-leb, lt-leb, cases_lt, cases_eq, both_ways}
+use Rattle.std.proofs.lemmas.Bool.{le-leb, lt-leb, cases_lt, cases_eq, cases_order, both_ways}
 use Rattle.suite.specs.Scheme.{Scheme}
 use Rattle.board.specs.Meaning.{Meaning, Power, endless, writes}
 use Rattle.machine.specs.Layout.{eight_ary, lines_of, update}
@@ -33,6 +33,10 @@ module _ (h : ℕ) (S : Scheme) (m : Meaning) (t : Table) (n keep : ℕ) (u : n 
   unfolding evict_until
   until_enough zero k = refl
   until_enough (suc f) k = ap (λ b. cond b (stay v) (and_then (evict_lowest (eight_ary h) S v (lowest (eight_ary h) t)) (evict_until (eight_ary h) S keep f))) (ap (λ x. leb x keep) (sym u) ∙ le-leb n keep k)
+
+  pub until_over : evict_until (eight_ary h) S keep 0 v ≡ stay v
+  unfolding evict_until
+  until_over = refl
 
   pub until_more : (f a : ℕ) → keep < n → Lowest (eight_ary h) t a → and_then (evict (eight_ary h) S v a) (evict_until (eight_ary h) S keep f) ≡ evict_until (eight_ary h) S keep (suc f) v
   unfolding evict_until
@@ -119,6 +123,25 @@ module _ {h : ℕ} {S : Scheme} {keep : ℕ} {w : Run} {m₀ : Meaning} {n₀ : 
           tally = omega (arith, d.tally, f.1, j);
           comes = λ o m' t' n' z. d.comes o m' t' n' (went_both (evict_until (eight_ary h) S keep f.0) (one f.0 f.1) y z);
         }
+
+-- After a turn, no node up to the one evicted is dirty.
+pub next_below : (h : ℕ) (t t' : Table) (a i : ℕ) {m : Meaning} → Fits h m → Lowest (eight_ary h) t a → ((q : ℕ) → q < i → is_dirty (t q) ≡ false) → LeftSlot (eight_ary h) a t none t' → (q : ℕ) → q < i + 1 → is_dirty (t' q) ≡ false
+next_below h t t' a i F L f O q n = go (cases_order q a)
+  where
+    up : a < 8 ^ h + a / 8
+    up = (eight_trees h F.low F.high).parent_above a L.range
+
+    late : i ≤ a
+    late = pick (cases_lt a i)
+      where
+        pick : (a < i) ⊎ (i ≤ a) → i ≤ a
+        pick (inl x) = absurd (both_ways (is_dirty (t a)) (f a x) L.dirty)
+        pick (inr x) = x
+
+    go : (q ≡ a) ⊎ ((q < a) ⊎ (a < q)) → is_dirty (t' q) ≡ false
+    go (inl e) = ap is_dirty (O refl q (omega (arith, up)) ∙ update_same t a none q e)
+    go (inr (inl e)) = ap is_dirty (O refl q (omega (arith, up)) ∙ update_other t a none q (λ x. omega arith)) ∙ L.below q e
+    go (inr (inr e)) = absurd (omega (arith, late))
 
 -- A leaf that is not dirty is not after a turn.
 pub next_leaf : (h : ℕ) (t t' : Table) (a : ℕ) → Lowest (eight_ary h) t a → LeftSlot (eight_ary h) a t none t' → (q : ℕ) → q < 8 ^ h + 8 ^ h / 8 → t q ≡ none → t' q ≡ none

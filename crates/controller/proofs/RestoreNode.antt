@@ -42,57 +42,53 @@ row_clip ws f n h = fun_ext (λ i. at i (cases_lt i 8))
 
 -- What the code found of a child's line, as it is found of the board's line.
 module _ (S : Scheme) (T : Shape) (a s : ℕ) (ls : List Line) (l : Line) (e : l ≡ get_or ls a no_line) where
-  on_board : (r : Result ℕ TreeFault) → ChildRestored S T a s (line_in l) r → ChildRestored S T a s (memory_in ls a) r
+  pub child_answer : (r : Result ℕ TreeFault) → ChildRestored S T a s (line_in l) r → ChildRestored S T a s (memory_in ls a) r
   unfolding memory_in
-  on_board r f = subst (λ (x : Line). ChildRestored S T a s (line_in x) r) e f
+  child_answer r f = subst (λ (x : Line). ChildRestored S T a s (line_in x) r) e f
 
   pub child_right : (c : ℕ) → (c ≡ restored s (l.tag % 1024)) × (c ≤ counter_limit) → (b : Bool) → b ≡ child_line_valid S T a c (line_in l) → b ≡ true → ChildRestored S T a s (memory_in ls a) (Ok c)
-  child_right c v b q t = on_board (Ok c) (v.0, and_from _ _ (le-leb _ counter_limit v.1) (sym q ∙ t))
+  child_right c v b q t = child_answer (Ok c) (v.0, and_from _ _ (le-leb _ counter_limit v.1) (sym q ∙ t))
 
   pub child_wrong : (c : ℕ) → (c ≡ restored s (l.tag % 1024)) × (c ≤ counter_limit) → (b : Bool) → b ≡ child_line_valid S T a c (line_in l) → b ≡ false → ChildRestored S T a s (memory_in ls a) (Err (Corrupt a))
-  child_wrong c v b q t = on_board (Err (Corrupt a)) (ap (λ x. leb x counter_limit && child_line_valid S T a x (line_in l)) (sym v.0) ∙ and_right _ _ (sym q ∙ t), refl)
+  child_wrong c v b q t = child_answer (Err (Corrupt a)) (ap (λ x. leb x counter_limit && child_line_valid S T a x (line_in l)) (sym v.0) ∙ and_right _ _ (sym q ∙ t), refl)
 
   pub child_above : counter_limit < restored s (l.tag % 1024) → ChildRestored S T a s (memory_in ls a) (Err (Corrupt a))
-  child_above n = on_board (Err (Corrupt a)) (and_left _ _ (lt-leb _ counter_limit n), refl)
+  child_above n = child_answer (Err (Corrupt a)) (and_left _ _ (lt-leb _ counter_limit n), refl)
 
-module _ (h : ℕ) (m : Meaning) (F : Fits h m) (S : Scheme) (p b : ℕ) (n : 8 ^ h ≤ p) (k : p < lines_of h) (e : b ≡ min (8 * (p - 8 ^ h) + 0) 18446744073709551615) where
+-- The first child's address, which does not saturate.
+pub first_child : (h p b : ℕ) → 1 ≤ h → h ≤ 4 → p < lines_of h → b ≡ min (8 * (p - 8 ^ h) + 0) 18446744073709551615 → b ≡ 8 * (p - 8 ^ h)
+first_child h p b lo hi k e = omega (arith, lines_near h lo hi)
+
+-- How far a counter moved.
+pub moved_up : (s c t : ℕ) → c ≡ restored s (t % 1024) → (s ≤ c) × (c ≤ s + 1023)
+moved_up s c t e = (omega arith, omega arith)
+
+module _ (h : ℕ) (m : Meaning) (F : Fits h m) (S : Scheme) (p b : ℕ) (n : 8 ^ h ≤ p) (k : p < lines_of h) (e : b ≡ 8 * (p - 8 ^ h)) where
   abbrev memory : ℕ → LineMeant
   memory = memory_in m.lines
 
   L : TreeLaws (eight_ary h)
   L = eight_trees h F.low F.high
 
-  -- The first child's address does not saturate.
-  first_child : b ≡ 8 * (p - 8 ^ h)
-  first_child = omega (arith, e, k, lines_near h F.low F.high)
-
   pub child_in : (i : ℕ) → i < 8 → b + i < lines_of h
-  child_in i j = subst (λ x. x + i < lines_of h) (sym first_child) (L.child_in p i n (omega arith) j)
+  child_in i j = subst (λ x. x + i < lines_of h) (sym e) (L.child_in p i n (omega arith) j)
 
   at_child : (i : ℕ) → memory_in m.lines (b + i) ≡ memory_in m.lines (8 * (p - 8 ^ h) + i)
-  at_child i = ap (λ x. memory_in m.lines (x + i)) first_child
-
-  children_corrupt : (i : ℕ) → i < 8 → child_valid (eight_ary h) S (memory_in m.lines) p i ≡ false → ((j : ℕ) → j < i → child_valid (eight_ary h) S (memory_in m.lines) p j ≡ true) → err (fault corrupt (b + i)) ≡ from_children (eight_ary h) S (memory_in m.lines) p
-  children_corrupt i j f g = ap (λ x. err (fault corrupt (x + i))) first_child ∙ sym (ap (slot_unless (eight_ary h) (memory_in m.lines) p) (first_is 8 (λ q. not (child_valid (eight_ary h) S (memory_in m.lines) p q)) i j (not_from_false _ f) (λ q x. not_from_true _ (g q x))))
+  at_child i = ap (λ x. memory_in m.lines (x + i)) e
 
   -- A child's counter and its line, as the code judged them.
   module _ (i s : ℕ) (w : s ≡ (memory_in m.lines p).words i) where
-    counter_is : restored s ((memory_in m.lines (b + i)).tag % 1024) ≡ child_counter (eight_ary h) (memory_in m.lines) p i
+    pub counter_is : restored s ((memory_in m.lines (b + i)).tag % 1024) ≡ child_counter (eight_ary h) (memory_in m.lines) p i
     counter_is = ap (λ x. restored x ((memory_in m.lines (b + i)).tag % 1024)) w ∙ ap (λ (x : LineMeant). restored ((memory_in m.lines p).words i) (x.tag % 1024)) (at_child i)
 
-    valid_of : (c : ℕ) → c ≡ restored s ((memory_in m.lines (b + i)).tag % 1024) → leb c counter_limit && child_line_valid S (eight_ary h) (b + i) c (memory_in m.lines (b + i)) ≡ child_valid (eight_ary h) S (memory_in m.lines) p i
+    pub valid_of : (c : ℕ) → c ≡ restored s ((memory_in m.lines (b + i)).tag % 1024) → leb c counter_limit && child_line_valid S (eight_ary h) (b + i) c (memory_in m.lines (b + i)) ≡ child_valid (eight_ary h) S (memory_in m.lines) p i
     valid_of c u =
         ap (λ x. leb x counter_limit && child_line_valid S (eight_ary h) (b + i) x (memory_in m.lines (b + i))) (u ∙ counter_is)
-        ∙ ap (λ x. leb (child_counter (eight_ary h) (memory_in m.lines) p i) counter_limit && child_line_valid S (eight_ary h) (x + i) (child_counter (eight_ary h) (memory_in m.lines) p i) (memory_in m.lines (x + i))) first_child
+        ∙ ap (λ x. leb (child_counter (eight_ary h) (memory_in m.lines) p i) counter_limit && child_line_valid S (eight_ary h) (x + i) (child_counter (eight_ary h) (memory_in m.lines) p i) (memory_in m.lines (x + i))) e
         ∙ ap (λ x. leb (child_counter (eight_ary h) (memory_in m.lines) p i) counter_limit && cond (ltb (8 * (p - 8 ^ h) + i) (8 ^ h)) (right S (8 * (p - 8 ^ h) + i) (child_counter (eight_ary h) (memory_in m.lines) p i) (memory_in m.lines (8 * (p - 8 ^ h) + i))) x) (sym (valid_is h S m.lines (8 * (p - 8 ^ h) + i) (child_counter (eight_ary h) (memory_in m.lines) p i)))
 
-    -- A child that was restored: its counter, and how far it moved from the stored one.
-    pub child_ok : (c : ℕ) → ChildRestored S (eight_ary h) (b + i) s (memory_in m.lines (b + i)) (Ok c) → (c ≡ child_counter (eight_ary h) (memory_in m.lines) p i) × (child_valid (eight_ary h) S (memory_in m.lines) p i ≡ true) × (s ≤ c) × (c ≤ s + 1023)
-    child_ok c d = (d.0 ∙ counter_is, sym (valid_of c d.0) ∙ d.1, omega (arith, d.0), omega (arith, d.0))
-
-    -- The first child that was refused.
-    pub child_bad : (f : TreeFault) → ChildRestored S (eight_ary h) (b + i) s (memory_in m.lines (b + i)) (Err f) → i < 8 → ((j : ℕ) → j < i → child_valid (eight_ary h) S (memory_in m.lines) p j ≡ true) → err (tree_fault f) ≡ from_children (eight_ary h) S (memory_in m.lines) p
-    child_bad f d j g = ap (λ (y : Fault). err y) d.1 ∙ children_corrupt i j (sym (valid_of _ refl) ∙ d.0) g
+  pub children_corrupt : (i : ℕ) → i < 8 → child_valid (eight_ary h) S (memory_in m.lines) p i ≡ false → ((j : ℕ) → j < i → child_valid (eight_ary h) S (memory_in m.lines) p j ≡ true) → err (fault corrupt (b + i)) ≡ from_children (eight_ary h) S (memory_in m.lines) p
+  children_corrupt i j f g = ap (λ x. err (fault corrupt (x + i))) e ∙ sym (ap (slot_unless (eight_ary h) (memory_in m.lines) p) (first_is 8 (λ q. not (child_valid (eight_ary h) S (memory_in m.lines) p q)) i j (not_from_false _ f) (λ q x. not_from_true _ (g q x))))
 
   pub children_valid : (ws : List ℕ) (r : ℕ) → length ws ≡ 8 → ((j : ℕ) → j < 8 → get_or ws j 0 ≡ child_counter (eight_ary h) (memory_in m.lines) p j) → ((j : ℕ) → j < 8 → child_valid (eight_ary h) S (memory_in m.lines) p j ≡ true) → r ≡ sum_to 8 (λ j. child_counter (eight_ary h) (memory_in m.lines) p j - (memory_in m.lines p).words j) → ok (record { counters = row ws; pending = r }) ≡ from_children (eight_ary h) S (memory_in m.lines) p
   children_valid ws r n f g q = ap ok same ∙ sym (ap (slot_unless (eight_ary h) (memory_in m.lines) p) (none_first 8 (λ q. not (child_valid (eight_ary h) S (memory_in m.lines) p q)) (λ j x. not_from_true _ (g j x))))
@@ -102,6 +98,19 @@ module _ (h : ℕ) (m : Meaning) (F : Fits h m) (S : Scheme) (p b : ℕ) (n : 8 
 
   pub child_within : (j : ℕ) → child_valid (eight_ary h) S (memory_in m.lines) p j ≡ true → child_counter (eight_ary h) (memory_in m.lines) p j ≤ counter_limit
   child_within j f = leb-true _ _ (and_parts _ _ f).0
+
+-- A child, as the code counted it from the first.
+module _ (h : ℕ) (m : Meaning) (F : Fits h m) (S : Scheme) (p b : ℕ) (n : 8 ^ h ≤ p) (k : p < lines_of h) (e : b ≡ min (8 * (p - 8 ^ h) + 0) 18446744073709551615) (i s : ℕ) (w : s ≡ (memory_in m.lines p).words i) where
+  first : b ≡ 8 * (p - 8 ^ h)
+  first = first_child h p b F.low F.high k e
+
+  -- A child that was restored: its counter, and how far it moved from the stored one.
+  pub child_ok : (c : ℕ) → ChildRestored S (eight_ary h) (b + i) s (memory_in m.lines (b + i)) (Ok c) → (c ≡ child_counter (eight_ary h) (memory_in m.lines) p i) × (child_valid (eight_ary h) S (memory_in m.lines) p i ≡ true) × (s ≤ c) × (c ≤ s + 1023)
+  child_ok c d = (d.0 ∙ counter_is h m F S p b n k first i s w, sym (valid_of h m F S p b n k first i s w c d.0) ∙ d.1, (moved_up s c _ d.0).0, (moved_up s c _ d.0).1)
+
+  -- The first child that was refused.
+  pub child_bad : (f : TreeFault) → ChildRestored S (eight_ary h) (b + i) s (memory_in m.lines (b + i)) (Err f) → i < 8 → ((j : ℕ) → j < i → child_valid (eight_ary h) S (memory_in m.lines) p j ≡ true) → err (tree_fault f) ≡ from_children (eight_ary h) S (memory_in m.lines) p
+  child_bad f d j g = ap (λ (y : Fault). err y) d.1 ∙ children_corrupt h m F S p b n k first i j (sym (valid_of h m F S p b n k first i s w _ refl) ∙ d.0) g
 
 module _ (h : ℕ) (m : Meaning) (S : Scheme) (t : Table) (p : ℕ) where
   abbrev v : View

@@ -2,14 +2,21 @@
 use Rattle.std.proofs.Common.{◌≡◌, ℕ, ◌^◌, ◌<◌, ◌≤◌, true, ◌⊎◌, sym, ◌∙◌, get_or, refl, ap, inl, inr, arith}
 use mathlib.Core.Option.{some, none}
 use Rattle.machine.specs.Layout.{lines_of}
-use Rattle.machine.specs.Plans.{Slot, is_dirty}
+use Rattle.machine.specs.Plans.{Slot, is_dirty, dirty_count}
+use Rattle.machine.specs.Layouts.{shape_in}
 use Rattle.tree.specs.Tables.{slot_in, no_slot, rows_in}
 use Rattle.tree.specs.SlotTable.{table_in, no_slots}
 use Rattle.tree.specs.declared.types.Slots.{Slots}
 use Rattle.machine.specs.declared.layout.Layout.{Layout}
 use Rattle.std.proofs.lemmas.Bool.{cases_lt, both_ways}
 use Rattle.tree.proofs.InOrder.{ordered_in, table_at}
+use Rattle.tree.proofs.Sums.{count_upto}
 use Rattle.tree.proofs.Rows.{table_missing}
+
+-- As many slots are in use as nodes are dirty.
+pub used_is : (s : Slots) → s.used ≡ dirty_count (shape_in s.layout) (table_in s)
+unfolding table_in
+used_is s = count_upto s.layout.levels s.table s.used (ordered_in s) s.used (omega arith)
 
 -- A slot in use is that of a node.
 pub first_slot : (s : Slots) → 0 < s.used → (p : ℕ) × (x : Slot) × (table_in s p ≡ some x) × (8 ^ s.layout.levels ≤ p) × (p < lines_of s.layout.levels)

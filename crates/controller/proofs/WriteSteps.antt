@@ -1,7 +1,7 @@
 -- Room for a write, and its commit.
-use Rattle.std.proofs.Common.{◌≡◌, ℕ, zero, suc, ◌+◌, ◌-◌, ◌/◌, ◌^◌, ◌<◌, ◌≤◌, false, cond, ◌⊎◌, sym, refl, ap, ◌∙◌, subst, inl, inr, arith}
+use Rattle.std.proofs.Common.{◌≡◌, ℕ, zero, suc, ◌+◌, ◌-◌, ◌/◌, ◌^◌, ◌<◌, ◌≤◌, true, false, cond, ◌⊎◌, sym, refl, ap, ◌∙◌, subst, inl, inr, arith}
 use mathlib.Core.Option.{Option, some, none}
-use Rattle.std.proofs.lemmas.Bool.{lt-ltb, le-ltb, cases_lt, both_ways}
+use Rattle.std.proofs.lemmas.Bool.{lt-ltb, le-ltb, leb-false, cases_lt, both_ways}
 use Rattle.suite.specs.Scheme.{Body, Scheme}
 use Rattle.board.specs.Meaning.{Meaning}
 use Rattle.machine.specs.Layout.{eight_ary, lines_of, TreeLaws, update}
@@ -11,7 +11,7 @@ use Rattle.controller.specs.Views.{view_in, Fits}
 use Rattle.controller.specs.Runs.{before_commit}
 use Rattle.controller.specs.Registers.{Room, RoomAt, SmallAt, next_counter}
 use Rattle.machine.proofs.EightAry.{eight_trees}
-use Rattle.controller.proofs.EvictSteps.{small_after, parent_kept, commit_stops, commit_goes}
+use Rattle.controller.proofs.EvictSteps.{small_after, parent_kept, next_within, commit_stops, commit_goes}
 
 module _ (h : ℕ) (S : Scheme) (m : Meaning) (t : Table) (a : ℕ) where
   abbrev v : View
@@ -26,8 +26,11 @@ module _ (h : ℕ) (S : Scheme) (m : Meaning) (t : Table) (a : ℕ) where
   goes b c e = commit_goes h S v t a b (counter_of (eight_ary h) S v a) c e
 
   module _ (F : Fits h m) where
-    pub small_here : a < lines_of h → (c : ℕ) → ok c ≡ next_counter a (counter_of (eight_ary h) S v a) → SmallAt (eight_ary h) a v
+    pub small_here : a < lines_of h → (c : ℕ) → ok c ≡ counter_of (eight_ary h) S v a → SmallAt (eight_ary h) a v
     small_here k c e x y = small_after h S m t a F k c e (update t a none) refl x (parent_kept h S m t a F k (update t a none) refl ∙ y)
+
+    pub next_small_here : a < lines_of h → (c : ℕ) → ok c ≡ next_counter a (counter_of (eight_ary h) S v a) → SmallAt (eight_ary h) a v
+    next_small_here k c e = let now = (next_within a c (counter_of (eight_ary h) S v a) e).1 in small_here k now.0 now.1
 
     L : TreeLaws (eight_ary h)
     L = eight_trees h F.low F.high
@@ -45,6 +48,9 @@ module _ (h : ℕ) (S : Scheme) (m : Meaning) (t : Table) (a : ℕ) where
             ap (λ z. and_then (cond z (and_then (evict_overdue (eight_ary h) S v (8 ^ h + a / 8)) (λ u. make_room (eight_ary h) S cap (8 ^ h + a / 8) u (u.table (8 ^ h + a / 8)))) (stay v)) (λ u. commit (eight_ary h) S u u.table a b)) (le-ltb (8 ^ h + a / 8) (lines_of h) n)
             ∙ sym (ap (λ r. write_at (eight_ary h) S r cap v a b) (ap (eight_ary h).depth e ∙ L.depth_root))
 
+  pub overdue_evicts : true ≡ overdue (t a) → evict (eight_ary h) S v a ≡ evict_overdue (eight_ary h) S v a
+  overdue_evicts e = sym (ap (λ b. cond b (evict (eight_ary h) S v a) (stay v)) (sym e))
+
   pub overdue_stays : false ≡ overdue (t a) → stay v ≡ evict_overdue (eight_ary h) S v a
   overdue_stays e = sym (ap (λ b. cond b (evict (eight_ary h) S v a) (stay v)) (sym e))
 
@@ -58,12 +64,26 @@ module _ (h : ℕ) (S : Scheme) (cap : ℕ) (m : Meaning) (t : Table) (a p : ℕ
       ap (λ x. and_then (evict_overdue (eight_ary h) S (view_in m t) x) (λ u. make_room (eight_ary h) S cap x u (u.table x))) q
       ∙ sym (ap (λ z. cond z (and_then (evict_overdue (eight_ary h) S (view_in m t) (8 ^ h + a / 8)) (λ u. make_room (eight_ary h) S cap (8 ^ h + a / 8) u (u.table (8 ^ h + a / 8)))) (stay (view_in m t))) (lt-ltb (8 ^ h + a / 8) (lines_of h) (subst (λ x. x < lines_of h) q n)))
 
+  pub room_dirty : true ≡ is_dirty (t p) → stay (view_in m t) ≡ make_room (eight_ary h) S cap p (view_in m t) (t p)
+  room_dirty e = go (t p) e
+    where
+      go : (o : Option Slot) → true ≡ is_dirty o → stay (view_in m t) ≡ make_room (eight_ary h) S cap p (view_in m t) o
+      go (some s) e = refl
+      go none e = absurd (both_ways true (e) refl)
+
   pub room_clean : false ≡ is_dirty (t p) → evict_until (eight_ary h) S (cap - 1) (lines_of h) (view_in m t) ≡ make_room (eight_ary h) S cap p (view_in m t) (t p)
   room_clean e = go (t p) e
     where
       go : (o : Option Slot) → false ≡ is_dirty o → evict_until (eight_ary h) S (cap - 1) (lines_of h) (view_in m t) ≡ make_room (eight_ary h) S cap p (view_in m t) o
       go (some s) e = absurd (both_ways false refl (e))
       go none e = refl
+
+  pub roomy_dirty : (used : ℕ) → true ≡ is_dirty (t p) → overdue (t p) ≡ false → RoomAt (eight_ary h) a used t
+  roomy_dirty used e f n = subst (λ x. Room used (t x)) q (go (t p) e f)
+    where
+      go : (o : Option Slot) → true ≡ is_dirty o → overdue o ≡ false → Room used o
+      go (some s) e f = leb-false 1023 s.pending f
+      go none e f = absurd (both_ways true e refl)
 
   pub roomy_clean : (used : ℕ) → t p ≡ none → used < 64 → RoomAt (eight_ary h) a used t
   roomy_clean used e f n = subst (λ x. Room used (t x)) q (subst (Room used) (sym e) f)

@@ -7,7 +7,7 @@ use Rattle.tree.specs.SlotTable.{table_in}
 use Rattle.controller.specs.Views.{view_in, tree_fault}
 use Rattle.controller.specs.Runs.{Went, ended}
 use Rattle.controller.proofs.EvictSteps.{went_refused, next_kept, next_within}
-use Rattle.controller.proofs.WriteSteps.{stops, goes, small_here}
+use Rattle.controller.proofs.WriteSteps.{stops, goes, next_small_here}
 use Rattle.controller.proofs.open.Open.commit.Goals as goal
 
 pub returns-in_err-counter-clause-went : goal.returns-in_err-counter-clause-went
@@ -32,7 +32,7 @@ commit_under-requires g c =
     let now = counter_of (shape_in s.chip.slots.layout) K (view_in M T) c.args.at in
     record {
       place = (c.requires.place.0, (c.requires.place.1, (next_within c.args.at c.in_ok-counter.counter now e).0));
-      room = (c.requires.room.0, small_here s.chip.slots.layout.levels K M T c.args.at c.requires.place.0 c.requires.place.1 c.in_ok-counter.counter e);
+      room = (c.requires.room.0, next_small_here s.chip.slots.layout.levels K M T c.args.at c.requires.place.0 c.requires.place.1 c.in_ok-counter.counter e);
       countable = c.requires.room.1;
     }
 

@@ -9,7 +9,7 @@ use Rattle.machine.specs.declared.layout.Layout.{Layout}
 use Rattle.controller.specs.Views.{view_in, tree_fault, Fits}
 use Rattle.controller.specs.Runs.{Went, ended}
 use Rattle.controller.specs.Registers.{RoomAt, SmallAt}
-use Rattle.controller.proofs.EvictSteps.{went_refused, next_kept, next_within, now_stops, now_commits, room_after, small_after, left_after}
+use Rattle.controller.proofs.EvictSteps.{went_refused, next_kept, next_within, now_stops, now_commits, room_after, next_small_after, left_after}
 use Rattle.controller.proofs.open.Open.evict_now.Goals as goal
 
 pub returns-in_err-counter-clause-went : goal.returns-in_err-counter-clause-went
@@ -47,7 +47,7 @@ commit_under-requires g c =
       place = (subst (λ (y : Layout). Fits y.levels M) back F, (subst (λ (y : Layout). a < (shape_in y).lines) back k, (next_within a n now e).0));
       room = (
         subst (λ (y : Layout). RoomAt (shape_in y) a s₁.used (table_in s₁)) back (room_after h K M T a F k (table_in s₁) s₁.used d.2 c.requires.parent (omega (arith, d.3, s.chip.slots.few))),
-        subst (λ (y : Layout). SmallAt (shape_in y) a (view_in M (table_in s₁))) back (small_after h K M T a F k n e (table_in s₁) d.2),
+        subst (λ (y : Layout). SmallAt (shape_in y) a (view_in M (table_in s₁))) back (next_small_after h K M T a F k n e (table_in s₁) d.2),
       );
       countable = c.requires.countable;
     }

@@ -3,13 +3,13 @@ use Rattle.std.proofs.Common.{ap, ◌∙◌, refl, arith, rules}
 use Rattle.std.proofs.lemmas.Result.{err_from_is_err_and}
 use Rattle.tree.specs.SlotTable.{table_in}
 use Rattle.controller.specs.Views.{tree_fault}
-use Rattle.controller.proofs.CounterSteps.{parent_above, from_root, from_slot, from_above, from_corrupt, from_line}
+use Rattle.controller.proofs.CounterSteps.{parent_above, from_root_field, from_slot, from_above, from_corrupt, from_line}
 use Rattle.controller.proofs.view.View.+counter_of.Goals as goal
 
 pub returns-then-parent-lines : goal.returns-then-parent-lines
 returns-then-parent-lines g t c =
     let v = c.args.self.now in
-    from_root v.layout.levels (g.B.Board.meaning v.board.now) v.fits (g.S.Suite.scheme v.suite.now) (table_in v.slots.now) c.args.at c.parent-parent.result c.index-index.result c.requires c.parent-parent.ensures c.index-index.ensures.value (omega (arith, c.lines.ensures.value)) c.decode.result (c.decode.ensures.meaning ∙ ap register_in c.read_register.ensures)
+    from_root_field v.layout.levels (g.B.Board.meaning v.board.now) v.fits (g.S.Suite.scheme v.suite.now) (table_in v.slots.now) c.args.at c.parent-parent.result c.index-index.result c.requires c.parent-parent.ensures c.index-index.ensures.value (omega (arith, c.lines.ensures.value)) c.decode.result (c.decode.ensures.meaning ∙ ap register_in c.read_register.ensures)
 
 pub returns-in-Some : goal.returns-in-Some
 returns-in-Some g t c =

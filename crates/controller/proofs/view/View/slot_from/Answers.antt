@@ -7,7 +7,7 @@ use Rattle.machine.specs.Plans.{child_counter, child_valid}
 use Rattle.machine.specs.Layouts.{shape_in}
 use Rattle.machine.proofs.EightAry.{lines_near}
 use Rattle.tree.proofs.Sums.{sum_none}
-use Rattle.controller.proofs.RestoreNode.{child_in, child_ok, child_bad, children_valid, below_one, set_more, sum_step}
+use Rattle.controller.proofs.RestoreNode.{first_child, child_in, child_ok, child_bad, children_valid, below_one, set_more, sum_step}
 use Rattle.controller.proofs.view.View.slot_from.Goals as goal
 
 pub loop-i-init : goal.loop-i-init
@@ -16,13 +16,13 @@ loop-i-init g c = ((λ k h. absurd (omega arith)), (λ k h. refl), (λ k h. absu
 pub overflow_add-first : goal.overflow_add-first
 overflow_add-first g c =
     let v = c.args.self.now in
-    let k = child_in v.layout.levels (g.B.Board.meaning v.board.now) v.fits (g.S.Suite.scheme v.suite.now) c.args.at c.first_child-first.result c.requires.place.0 c.requires.place.1 c.first_child-first.ensures c.loop-i.i c.loop-i-test.true in
+    let k = child_in v.layout.levels (g.B.Board.meaning v.board.now) v.fits (g.S.Suite.scheme v.suite.now) c.args.at c.first_child-first.result c.requires.place.0 c.requires.place.1 (first_child v.layout.levels c.args.at c.first_child-first.result v.layout.low v.layout.high c.requires.place.1 c.first_child-first.ensures) c.loop-i.i c.loop-i-test.true in
     omega (arith, k, lines_near v.layout.levels v.layout.low v.layout.high)
 
 pub restore_child-requires : goal.restore_child-requires
 restore_child-requires g c =
     let v = c.args.self.now in
-    child_in v.layout.levels (g.B.Board.meaning v.board.now) v.fits (g.S.Suite.scheme v.suite.now) c.args.at c.first_child-first.result c.requires.place.0 c.requires.place.1 c.first_child-first.ensures c.loop-i.i c.loop-i-test.true
+    child_in v.layout.levels (g.B.Board.meaning v.board.now) v.fits (g.S.Suite.scheme v.suite.now) c.args.at c.first_child-first.result c.requires.place.0 c.requires.place.1 (first_child v.layout.levels c.args.at c.first_child-first.result v.layout.low v.layout.high c.requires.place.1 c.first_child-first.ensures) c.loop-i.i c.loop-i-test.true
 
 pub returns-in_err-restored-clause-value : goal.returns-in_err-restored-clause-value
 returns-in_err-restored-clause-value g c =
@@ -54,4 +54,4 @@ returns-clause-value g c =
     let M = g.B.Board.meaning v.board.now in
     let e : c.loop-i.i ≡ 8 = search rules in
     let I = c.loop-i.invariant in
-    children_valid v.layout.levels M v.fits (g.S.Suite.scheme v.suite.now) c.args.at c.first_child-first.result c.requires.place.0 c.requires.place.1 c.first_child-first.ensures c.loop-i.counter-items c.loop-i.pending (search rules) (λ j h. I.0 j (omega arith)) (λ j h. I.2 j (omega arith)) (I.3 ∙ ap (λ n. sum_to n (λ k. child_counter (shape_in v.layout) (memory_in M.lines) c.args.at k - (memory_in M.lines c.args.at).words k)) e)
+    children_valid v.layout.levels M v.fits (g.S.Suite.scheme v.suite.now) c.args.at c.first_child-first.result c.requires.place.0 c.requires.place.1 (first_child v.layout.levels c.args.at c.first_child-first.result v.layout.low v.layout.high c.requires.place.1 c.first_child-first.ensures) c.loop-i.counter-items c.loop-i.pending (search rules) (λ j h. I.0 j (omega arith)) (λ j h. I.2 j (omega arith)) (I.3 ∙ ap (λ n. sum_to n (λ k. child_counter (shape_in v.layout) (memory_in M.lines) c.args.at k - (memory_in M.lines c.args.at).words k)) e)
