@@ -1,9 +1,21 @@
 -- Texts cut at a byte.
-use Rattle.std.proofs.Common.{◌≡◌, ℕ, suc, ◌+◌, ◌<◌, ◌≤◌, Bool, true, false, eqb, cond, List, [], ◌∷◌, ◌++◌, length, drop, Some, None, Option, Bor, sym, refl, ap, ◌∙◌, subst, inl, inr, append_assoc, append-nil, arith, rules}
-use Rattle.std.proofs.lemmas.List.{drop_all, length_push, length-drop, drop_at}
+use Rattle.std.proofs.Common.{◌≡◌, ℕ, suc, ◌+◌, ◌<◌, ◌≤◌, Bool, true, false, eqb, cond, ◌⊎◌, List, [], ◌∷◌, ◌++◌, length, get_or, take, drop, Some, None, Option, Bor, sym, refl, ap, ◌∙◌, subst, inl, inr, append_assoc, append-nil, arith, rules}
+use Rattle.std.proofs.lemmas.List.{drop_more, drop_all, take-append-drop, get_or-take, length-take-le, length_push, length-drop, drop_at}
 use Rattle.std.specs.Option.{option_map, unwrap_or}
 use Rattle.text.specs.Spelling.{Reads, Behind, Digit, Decimal, before_lines, lines_of, FirstLine}
 use Rattle.text.specs.Taking.{Stops, Lacks, Cut}
+
+-- what lies from the first such byte on
+stops_at : (b : ℕ) (t : List ℕ) (n : ℕ) → (n < length t → get_or t n 0 ≡ b) → (n < length t) ⊎ (length t ≤ n) → Stops b (drop n t)
+stops_at b t n found (inl h) = inr (drop (n + 1) t, drop_more t n 0 h ∙ ap (λ c. c ∷ drop (n + 1) t) (found h))
+stops_at b t n found (inr h) = inl (drop_all n t h)
+
+pub cut_at : (b : ℕ) (t : List ℕ) (n : ℕ) → n ≤ length t → ((k : ℕ) → k < n → get_or t k 0 ≡ b → ⊥) → (n < length t → get_or t n 0 ≡ b) → (n < length t) ⊎ (length t ≤ n) → Cut b t (take n t) (drop n t)
+cut_at b t n within before found which = record {
+  split = sym (take-append-drop n t);
+  lacks = λ i h e. let k : i < n = omega (arith, length-take-le n t within) in before i k (sym (get_or-take n t i 0 k) ∙ e);
+  stops = stops_at b t n found which;
+}
 
 -- a text that lacks b does not begin with it
 no_head : (b c : ℕ) (cs : List ℕ) → Lacks b (c ∷ cs) → c ≡ b → ⊥

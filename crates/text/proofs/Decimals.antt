@@ -1,6 +1,6 @@
 -- Reading a number digit by digit.
 use Rattle.std.proofs.Common.{◌≡◌, ℕ, ◌+◌, ◌^◌, ◌<◌, ◌≤◌, List, [], ◌∷◌, ◌++◌, length, get_or, drop, sym, refl, ap, ◌∙◌, subst, inl, inr, append-nil, arith}
-use Rattle.std.proofs.lemmas.List.{at_drop_more}
+use Rattle.std.proofs.lemmas.List.{at_drop_more, at_drop_all}
 use Rattle.text.specs.Spelling.{Each, Digit, Decimal, Spaced, Numbers, then_digit, read_on}
 use Rattle.text.specs.Taking.{Stops, Cut, Front}
 use Rattle.text.proofs.Cuts.{same_cut, digits_lack}
@@ -19,6 +19,9 @@ module _ (t : List ℕ) (i n : ℕ) (inside : i < length t) (so_far : read_on n 
   -- a byte that is no digit, or a value that does not fit, spoils the whole
   pub read_none : (Digit (get_or t i 0) → then_digit n (get_or t i 0) < 2 ^ 64 → ⊥) → (a : ℕ) → Decimal t a → ⊥
   read_none bad a d = bad (d.digits i inside) (omega (arith, read_on_le (then_digit n (get_or t i 0)) (drop (i + 1) t), read_more, d.value, d.fits))
+
+pub read_all : (t : List ℕ) (i n : ℕ) → length t ≤ i → read_on n (drop i t) ≡ read_on 0 t → n ≡ read_on 0 t
+read_all t i n past so_far = sym (at_drop_all (read_on n) t i past) ∙ so_far
 
 no_digit : Digit 32 → ⊥
 no_digit h = omega (arith, h.0)

@@ -10,6 +10,10 @@ module _ {A : Type 0} (Spells : List ℕ → A → Type 0) (Follows : List ℕ �
   Taken t [] rest = t ≡ rest
   Taken t (a ∷ more) rest = (u : List ℕ) × Front Spells Follows t a u × Taken u more rest
 
+  pub taken_more : (t : List ℕ) (ys : List A) (u : List ℕ) (a : A) (v : List ℕ) → Taken t ys u → Front Spells Follows u a v → Taken t (ys ++ (a ∷ [])) v
+  taken_more t [] u a v k f = (v, subst (λ (x : List ℕ). Front Spells Follows x a v) (sym k) f, refl)
+  taken_more t (y ∷ ys) u a v k f = (k.0, k.1, taken_more k.0 ys u a v k.2 f)
+
   pub taken_each : (t : List ℕ) (ys : List A) (u : List ℕ) → Taken t ys u → (p : List ℕ) × (t ≡ p ++ u) × Each Spells p ys
   taken_each t [] u k = ([], k, refl)
   taken_each t (y ∷ ys) u k =
