@@ -3,7 +3,8 @@ use Rattle.std.proofs.Common.{◌≡◌, ℕ, ◌+◌, List, [], ◌∷◌, ◌+
 use Rattle.board.specs.Meaning.{Meaning}
 use Rattle.board.specs.declared.types.Line.{Line}
 use Rattle.suite.specs.Scheme.{Scheme}
-use Rattle.text.specs.Writing.{Adds}
+use Rattle.text.specs.Spelling.{Reads}
+use Rattle.text.specs.Writing.{bad, Adds}
 use Rattle.script.specs.Script.{StepLine, row_text}
 use Rattle.script.specs.declared.types.Step.{Step}
 use Rattle.script.specs.declared.types.Row.{Row}
@@ -32,6 +33,14 @@ module _ (S : Scheme) (cap : ℕ) (all : List (List ℕ)) (m₀ : Meaning) (c₀
         (h.0, h.1, subst (Rows S cap 1 all m₀ c₀ None) (append-nil h.0) (h.2 [] (subst (λ (x : List (List ℕ)). Rows S cap i x m c k []) (sym e) refl)))
 
     module _ (l : List ℕ) (rest : List (List ℕ)) (f : ls ≡ l ∷ rest) where
+      -- an unreadable line
+      pub rows_bad : (p : List ℕ) → Reads StepLine l None → p ≡ o ++ bad (i + 5) → Adds (Rows S cap 1 all m₀ c₀ None) before p
+      rows_bad p none e = (
+        h.0 ++ bad (i + 5),
+        e ∙ ap (λ (x : List ℕ). x ++ bad (i + 5)) h.1 ∙ append_assoc before h.0 (bad (i + 5)),
+        h.2 (bad (i + 5)) (subst (λ (x : List (List ℕ)). Rows S cap i x m c k (bad (i + 5))) (sym f) (None, none, refl)),
+      )
+
       -- one step more
       rows_by : (s : Step) (r : Reply) (m' : Meaning) (c' : Chip) (p : List ℕ) (next : ℕ) → StepLine l s → Played S cap m c (event_of k s) r m' c' → p ≡ o ++ (row_text (row_of i r m'.register) ++ (10 ∷ [])) → next ≡ i + 1 → SoFar rest next m' c' (copy_after m k s) before p
       rows_by s r m' c' p next reads plays e is =

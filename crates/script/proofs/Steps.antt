@@ -2,11 +2,23 @@
 use Rattle.std.proofs.Common.{◌≡◌, ℕ, cond, eqb, ◌⊎◌, List, [], ◌∷◌, ◌++◌, get_or, Some, None, codes, Option, sym, refl, ap, ◌∙◌, subst, inl, inr, arith, lit<}
 use Rattle.std.proofs.lemmas.List.{append_cancel_left}
 use Rattle.std.proofs.lemmas.Bool.{cases_eq}
-use Rattle.text.specs.Spelling.{Unambiguous, After, Decimal, Numbers}
+use Rattle.text.specs.Spelling.{Reads, Unambiguous, After, Decimal, Numbers}
 use Rattle.text.proofs.Single.{decimal_once, numbers_once, after_once}
 use Rattle.script.specs.Script.{Limit, One, letter_of, Arguments, Lettered, StepLine}
 use Rattle.script.specs.declared.types.Step.{Step}
 use Rattle.script.specs.declared.types.Step.TheVariants.{Read, Write, Flush, Restart, Recharge, Copy, Put}
+
+-- numbers, as the code takes them from an array
+pub one_word : (u ns : List ℕ) → Numbers 1 u ns → Numbers 1 u (get_or ns 0 0 ∷ [])
+one_word u [] h = let z : ⊥ = omega (arith, h.many) in absurd z
+one_word u (a ∷ []) h = h
+one_word u (a ∷ b ∷ ns) h = let z : ⊥ = omega (arith, h.many) in absurd z
+
+pub two_words : (u ns : List ℕ) → Numbers 2 u ns → Numbers 2 u (get_or ns 0 0 ∷ get_or ns 1 0 ∷ [])
+two_words u [] h = let z : ⊥ = omega (arith, h.many) in absurd z
+two_words u (a ∷ []) h = let z : ⊥ = omega (arith, h.many) in absurd z
+two_words u (a ∷ b ∷ []) h = h
+two_words u (a ∷ b ∷ c ∷ ns) h = let z : ⊥ = omega (arith, h.many) in absurd z
 
 pub no_limit : (t : List ℕ) → (t ≡ codes "none" → ⊥) → ((n : ℕ) → Decimal t n → ⊥) → (l : Option ℕ) → Limit t l → ⊥
 no_limit t other bad (Some n) h = bad n h
@@ -38,6 +50,14 @@ module _ (c : ℕ) (u : List ℕ) where
 -- a step's line, by what stands behind its prefix
 pub no_letter : (t u : List ℕ) → t ≡ codes "step=" ++ u → ((p : ℕ × List ℕ) → u ≡ p.0 ∷ p.1 → ⊥) → (s : Step) → StepLine t s → ⊥
 no_letter t u e bad s h = bad (letter_of s, h.0) (append_cancel_left (codes "step=") _ _ (sym e ∙ h.1))
+
+pub step_read : (t u : List ℕ) (c : ℕ) (v : List ℕ) → t ≡ codes "step=" ++ u → u ≡ c ∷ v → (r : Option Step) → Reads (Lettered c) v r → Reads StepLine t r
+step_read t u c v e f (Some s) h = (v, e ∙ ap (λ (x : List ℕ). codes "step=" ++ x) (f ∙ ap (λ x. x ∷ v) (sym h.0)), h.1)
+step_read t u c v e f None h = λ s w.
+    let g : c ∷ v ≡ letter_of s ∷ w.0 = sym f ∙ append_cancel_left (codes "step=") _ _ (sym e ∙ w.1) in
+    let k : v ≡ w.0 = cc in
+    let l : letter_of s ≡ c = cc in
+    h s (l, subst (λ (x : List ℕ). Arguments x s) (sym k) w.2)
 
 -- a step by its letter and its numbers
 abbrev rebuilt : ℕ → List ℕ → Step
