@@ -91,6 +91,9 @@ module _ (s : Slots) (m : Meaning) (y : Layout) (e : y ≡ s.layout) (a p i n c 
       let d = raise_done s s' p i c (row l.body) b r (raise_fits s m a p i c l above j o f R S u) in
       (d.0 ∙ ap (λ x. update (table_in s) p (some (raised (slot_or (table_in s p) (row l.body)) x c))) j ∙ raised_in_slots s.layout.levels m (table_in s) a c p above o l f, d.1)
 
+  pub raise_root : n ≤ p → table_in s ≡ raised_slots (shape_in s.layout) (memory_in m.lines) (table_in s) a c
+  raise_root k = sym (ap (λ d. cond d (update (table_in s) (8 ^ s.layout.levels + a / 8) (some (raised (slot_for (memory_in m.lines) (table_in s (8 ^ s.layout.levels + a / 8)) (8 ^ s.layout.levels + a / 8)) (a % 8) c))) (table_in s)) (le-ltb (8 ^ s.layout.levels + a / 8) (lines_of s.layout.levels) (omega (arith, above, all))))
+
   module _ (ws : List ℕ) (g : Register) (w : register_in ws ≡ g) where
     pub register_node : p < n → register_in ws ≡ with_root (shape_in s.layout) a c g
     register_node k = roots_same s.layout.levels a c p ws g above w (subst (λ x. p < x) all k)
