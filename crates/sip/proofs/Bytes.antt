@@ -1,8 +1,9 @@
 -- Bytes as numbers, and the words of a message.
-use Rattle.std.proofs.Common.{◌≡◌, ℕ, zero, suc, ◌+◌, ◌-◌, ◌*◌, ◌/◌, ◌%◌, ◌^◌, ◌<◌, ◌≤◌, List, [], ◌∷◌, ◌++◌, length, get_or, take, drop, set, replicate, sym, refl, ap, ◌∙◌, mul-zero, mul-suc, mul_assoc, add-zero, pow-suc, add-one, arith, w64}
+use Rattle.std.proofs.Common.{◌≡◌, ℕ, zero, suc, ◌+◌, ◌-◌, ◌*◌, ◌/◌, ◌%◌, ◌^◌, ◌<◌, ◌≤◌, List, [], ◌∷◌, length, get_or, take, drop, sym, refl, ap, ◌∙◌, mul-zero, mul-suc, add-zero, pow-suc, add-one, arith, lit<, w64}
+use native.Mathlib.Nat.{pow-le-pow_right}
 use Rattle.std.specs.Int.{from_le_bytes}
 use Rattle.std.specs.Simd.{first_chunks}
-use Rattle.std.proofs.lemmas.List.{drop-drop, drop-replicate, length-drop, length-append, length-replicate, length-take-le, length-set, get_or-take, get_or-drop, take_all, get_or-append_right, get_or-replicate}
+use Rattle.std.proofs.lemmas.List.{drop-drop, drop_more, drop_all, length-drop, length-take-le, get_or-take, get_or-drop, take_all}
 use Rattle.std.proofs.lemmas.List.FromFn.{fill_by_all}
 use Rattle.sip.specs.Sip.{le, word, last_word, absorbed, compress}
 
@@ -34,43 +35,41 @@ word_read m words d i x f h e =
     let len : length (take 8 (drop (8 * i) m)) ≡ 8 = length-take-le 8 (drop (8 * i) m) (simp length-drop (omega arith)) in
     e ∙ ap (from_le_bytes w64) (ap (λ (ws : List (List ℕ)). get_or ws i d) f ∙ chunk_at 8 (length m / 8) m i d h) ∙ le_read (take 8 (drop (8 * i) m)) len
 
--- A byte put in place of a zero.
-le_set : (bs : List ℕ) (i v : ℕ) → i < length bs → get_or bs i 0 ≡ 0 → le (set bs i v) ≡ le bs + v * 256 ^ i
+-- A number of n bytes is below 256 ^ n.
+le_lt : (bs : List ℕ) → ((i : ℕ) → get_or bs i 0 < 256) → le bs < 256 ^ length bs
 unfolding le
-le_set [] i v h e = absurd (omega arith)
-le_set (b ∷ bs) zero v h e = omega arith
-le_set (b ∷ bs) (suc i) v h e =
-    let ih = le_set bs i v (omega arith) e in
-    let p : v * 256 ^ suc i ≡ v * 256 ^ i * 256 = rw pow-suc (sym (mul_assoc v (256 ^ i) 256)) in
+le_lt [] h = omega arith
+le_lt (b ∷ bs) h =
+    let ih = le_lt bs (λ i. h (suc i)) in
+    let e : 256 ^ suc (length bs) ≡ 256 ^ length bs * 256 = pow-suc 256 (length bs) in
+    let b0 : b < 256 = h 0 in
     omega arith
 
-le_zeros : (n : ℕ) → le (replicate n 0) ≡ 0
-unfolding le
-le_zeros zero = refl
-le_zeros (suc n) = let ih = le_zeros n in omega arith
+-- The bytes from i on, at most seven, are below 2 ^ 56.
+tail_lt : (m : List ℕ) (i : ℕ) → ((k : ℕ) → get_or m k 0 < 256) → length m ≤ i + 7 → le (drop i m) < 2 ^ 56
+tail_lt m i h n =
+    let small = le_lt (drop i m) (λ k. rw get_or-drop (h (i + k))) in
+    let few : length (drop i m) ≤ 7 = simp length-drop (omega arith) in
+    let most = pow-le-pow_right {n = 256} (lit< tt) few in
+    omega arith
 
--- Zeros after the bytes add nothing.
-le_padded : (bs : List ℕ) (n : ℕ) → le (bs ++ replicate n 0) ≡ le bs
+pub le_none : (m : List ℕ) → 0 ≡ le (drop (length m) m)
 unfolding le
-le_padded [] n = le_zeros n
-le_padded (b ∷ bs) n = let ih = le_padded bs n in omega arith
+le_none m = sym (ap le (drop_all (length m) m (omega arith)))
 
--- The bytes left, with zeros up to the highest byte, and the length there.
-pub last_read : (m rest front back : List ℕ) (x : ℕ) → rest ≡ drop (length m / 8 * 8) m → front ≡ rest → back ≡ drop (length rest) (replicate 8 0) → x ≡ from_le_bytes w64 (set (front ++ back) 7 (length m % 256)) → x ≡ last_word m
+-- One byte more before the bytes from i on.
+pub le_step : (m : List ℕ) (i w b : ℕ) → ((k : ℕ) → get_or m k 0 < 256) → 0 < i → i ≤ length m → length m ≤ (i - 1) + 7 → w ≡ le (drop i m) → b ≡ get_or m (i - 1) 0 → (w * 256 + b ≡ le (drop (i - 1) m)) × (w * 256 + b < 2 ^ 56)
+unfolding le
+le_step m i w b h pos most few e f =
+    let n : (i - 1) + 1 ≡ i = omega arith in
+    let d = ap le (drop_more m (i - 1) 0 (omega arith)) in
+    let s : le (drop (i - 1) m) ≡ get_or m (i - 1) 0 + 256 * le (drop i m) = rw n at d in
+    let lt = tail_lt m (i - 1) h few in
+    (omega arith, omega arith)
+
+pub last_from : (m : List ℕ) (i w : ℕ) → i ≡ 8 * (length m / 8) → w ≡ le (drop i m) → w + length m % 256 * 72057594037927936 ≡ last_word m
 unfolding last_word
-last_read m rest front back x e f g h =
-    let few : length rest ≤ 7 = rw e (simp length-drop (omega arith)) in
-    let zeros : back ≡ replicate (8 - length rest) 0 = g ∙ drop-replicate (length rest) 8 0 in
-    let bytes : front ++ back ≡ rest ++ replicate (8 - length rest) 0 = cc in
-    let len : length (rest ++ replicate (8 - length rest) 0) ≡ 8 = simp (length-append, length-replicate) (omega arith) in
-    let last : get_or (rest ++ replicate (8 - length rest) 0) 7 0 ≡ 0 =
-    get_or-append_right rest (replicate (8 - length rest) 0) (length rest) 7 0 refl few ∙ get_or-replicate (8 - length rest) (7 - length rest) 0 0 (omega arith) in
-    let put = le_set (rest ++ replicate (8 - length rest) 0) 7 (length m % 256) (omega arith) last in
-    let pad = le_padded rest (8 - length rest) in
-    let read = le_read (set (rest ++ replicate (8 - length rest) 0) 7 (length m % 256)) (simp length-set len) in
-    let whole : x ≡ le rest + length m % 256 * 72057594037927936 = h ∙ ap (λ (bs : List ℕ). from_le_bytes w64 (set bs 7 (length m % 256))) bytes ∙ read ∙ omega arith in
-    let place : le rest ≡ le (drop (8 * (length m / 8)) m) = ap le (e ∙ ap (λ (k : ℕ). drop k m) (omega arith)) in
-    omega arith
+last_from m i w n e = cc
 
 -- One word more.
 pub absorbed_more : (key m : List ℕ) (i : ℕ) → absorbed key m (i + 1) ≡ compress (absorbed key m i) (word m i)

@@ -7,8 +7,9 @@ pub(crate) fn last_word(message: &[u8]) -> u64
     ensures { result ≡ last_word message.now }
 {
     let (_, rest) = message.as_chunks::<8>();
-    let mut word = [0; 8];
-    word[..rest.len()].copy_from_slice(rest);
-    word[7] = (message.len() % 256) as u8;
-    u64::from_le_bytes(word)
+    let mut word = 0;
+    for byte in rest.iter().rev() {
+        word = word * 256 + u64::from(*byte);
+    }
+    word + (message.len() as u64 % 256) * 0x0100_0000_0000_0000
 }
