@@ -164,7 +164,7 @@ be_bytes w x0 x1 x2 x3 e h0 h1 h2 h3 =
     cc
 
 -- the word of the four bytes of b from place i on
-abbrev be_at : List ℕ → ℕ → ℕ
+abbrev pub be_at : List ℕ → ℕ → ℕ
 be_at b i = get_or b i 0 * 16777216 + get_or b (i + 1) 0 * 65536 + get_or b (i + 2) 0 * 256 + get_or b (i + 3) 0
 
 pub loaded : (b : List ℕ) (w0 w1 w2 w3 : ℕ) → length b ≡ 16 → ((i : ℕ) → get_or b i 0 < 256) → w0 ≡ be_at b 0 → w1 ≡ be_at b 4 → w2 ≡ be_at b 8 → w3 ≡ be_at b 12 → unpack (record { c0 = w0; c1 = w1; c2 = w2; c3 = w3 }) ≡ b

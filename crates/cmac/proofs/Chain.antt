@@ -29,14 +29,19 @@ chunk_at n (suc k) xs (suc i) d h =
     let e : n + n * i ≡ n * suc i = rw mul-suc (omega arith) in
     chunk_at n k (drop n xs) i d (omega arith) ∙ ap (take n) (drop-drop (n * i) n xs ∙ ap (λ (j : ℕ). drop j xs) e)
 
--- One block more, of those before the last one.
-pub chained_more : (ciph : List ℕ → List ℕ) (m x t y : List ℕ) (blocks : List (List ℕ)) (n i : ℕ) (d : List ℕ) → x ≡ chained ciph m i → blocks ≡ first_chunks 16 (length m / 16) m → n ≤ length m / 16 → i < n → t ≡ xor_blocks x (get_or (take n blocks) i d) → y ≡ ciph t → y ≡ chained ciph m (i + 1)
+-- One block more.
+pub chained_more : (ciph : List ℕ → List ℕ) (m x b t y : List ℕ) (i : ℕ) → x ≡ chained ciph m i → b ≡ take 16 (drop (16 * i) m) → t ≡ xor_blocks x b → y ≡ ciph t → y ≡ chained ciph m (i + 1)
 unfolding chained
-chained_more ciph m x t y blocks n i d e f few lt g h =
-    let b : get_or (take n blocks) i d ≡ take 16 (drop (16 * i) m) =
-    get_or-take n blocks i d lt ∙ ap (λ (bs : List (List ℕ)). get_or bs i d) f ∙ chunk_at 16 (length m / 16) m i d (omega arith) in
+chained_more ciph m x b t y i e f g h =
     let step : chained ciph m (i + 1) ≡ ciph (xor_blocks (chained ciph m i) (take 16 (drop (16 * i) m))) = rw add-one refl in
     cc
+
+-- One block more, of those before the last one.
+pub chained_chunk : (ciph : List ℕ → List ℕ) (m x t y : List ℕ) (blocks : List (List ℕ)) (n i : ℕ) (d : List ℕ) → x ≡ chained ciph m i → blocks ≡ first_chunks 16 (length m / 16) m → n ≤ length m / 16 → i < n → t ≡ xor_blocks x (get_or (take n blocks) i d) → y ≡ ciph t → y ≡ chained ciph m (i + 1)
+chained_chunk ciph m x t y blocks n i d e f few lt g h =
+    let b : get_or (take n blocks) i d ≡ take 16 (drop (16 * i) m) =
+    get_or-take n blocks i d lt ∙ ap (λ (bs : List (List ℕ)). get_or bs i d) f ∙ chunk_at 16 (length m / 16) m i d (omega arith) in
+    chained_more ciph m x (get_or (take n blocks) i d) t y i e b g h
 
 zeros_from : (n : ℕ) → n < 16 → drop n zeros ≡ 0 ∷ replicate (15 - n) 0
 zeros_from n h =
