@@ -19,7 +19,7 @@ use Rattle.controller.specs.declared.event.Reply.{Reply}
 use Rattle.controller.specs.declared.event.Reply.TheVariants.{Put}
 use Rattle.text.specs.Spelling.{Reads, lines_of}
 use Rattle.text.specs.Writing.{bad}
-use Rattle.script.specs.Script.{StepLine, HeaderRead, Outcome, row_text}
+use Rattle.script.specs.Script.{StepLine, HeaderReadAs, Outcome, row_text}
 use Rattle.script.specs.declared.types.Header.{Header}
 use Rattle.script.specs.declared.types.Step.{Step}
 use Rattle.bench.specs.Steps.{event_of, copy_after}
@@ -78,4 +78,4 @@ AfterHeader (Ok p) out = Run (scheme_of p.0) p.0 (lines_of p.1.now) (on_memory b
 
 -- What is printed for all lines of the input. The suites are 1 and 2.
 unfoldable pub Printed : List (List ℕ) → List ℕ → Type 0
-Printed ls out = (r : Outcome (Header SuiteKind)) × HeaderRead ((1, Sip) ∷ (2, Cmac) ∷ []) ls r × AfterHeader r out
+Printed ls out = (r : Outcome (Header SuiteKind)) × HeaderReadAs ((1, Sip) ∷ (2, Cmac) ∷ []) ls r × AfterHeader r out

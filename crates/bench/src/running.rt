@@ -8,7 +8,7 @@ use crate::playing::play_script;
 use crate::types::Script;
 use board::fuse::Fuse;
 use board::memory::Memory;
-use script::header::read_header;
+use script::header::read_header_as;
 use std::alloc::Global;
 use std::fmt;
 use suite::cmac_suite::CmacSuite;
@@ -67,7 +67,7 @@ fn play_keyed(script: &Script, words: &mut [u64], out: &mut String) -> fmt::Resu
 fn print_all(input: &[u8], out: &mut String) -> fmt::Result
     ensures { OnOk result (Adds (Printed (lines_of input.now)) (string_bytes out.old) (string_bytes out.new)) }
 {
-    match read_header(input, &SUITES) {
+    match read_header_as(input, &SUITES) {
         Ok((header, steps)) => {
             let mut words = [0; WORDS];
             play_keyed(&Script { header, steps }, &mut words, out)

@@ -1,5 +1,5 @@
 -- How a script is spelled, and how a row is printed.
-use Rattle.std.specs.Prelude.{◌≡◌, ℕ, List, [], ◌∷◌, ◌++◌, Some, None, Ok, Err, codes, Option, Result, IsOkAnd, MatchOption, ◌==◌}
+use Rattle.std.specs.Prelude.{◌≡◌, ℕ, ◌<◌, List, [], ◌∷◌, ◌++◌, length, Some, None, Ok, Err, codes, Option, Result, IsOkAnd, MatchOption, ◌==◌, slice_index}
 use Rattle.std.specs.Option.{option_map}
 use Rattle.std.specs.List.{find}
 use Rattle.std.specs.Borrow.{Bor}
@@ -48,9 +48,13 @@ Lettered c u s = (letter_of s ≡ c) × Arguments u s
 abbrev pub StepLine : List ℕ → Step → Type 0
 StepLine t s = (u : List ℕ) × (t ≡ codes "step=" ++ (letter_of s ∷ u)) × Arguments u s
 
+-- The number of a suite that is among those at hand.
+abbrev pub SuiteLine : List ℕ → List ℕ → ℕ → Type 0
+SuiteLine suites t n = After (codes "suite=") Decimal t n × ((i : ℕ) × (i < length suites) × (slice_index suites i ≡ n))
+
 -- The number of a suite, which is the first at hand that has this number.
-abbrev pub SuiteLine : {K : Type 0} → List (ℕ × K) → List ℕ → K → Type 0
-SuiteLine suites t k = (n : ℕ) × After (codes "suite=") Decimal t n × (option_map (λ s. s.1) (find (λ s. s.0 == n) suites) ≡ Some k)
+abbrev pub SuiteLineAs : {K : Type 0} → List (ℕ × K) → List ℕ → K → Type 0
+SuiteLineAs suites t k = (n : ℕ) × After (codes "suite=") Decimal t n × (option_map (λ s. s.1) (find (λ s. s.0 == n) suites) ≡ Some k)
 
 -- What is read of the first lines: their values and the text behind them, or the number of the first of them that is
 -- missing or unreadable.
@@ -70,25 +74,37 @@ FirstRead {A} Answers n (l ∷ ls) r = (o : Option A) × Answers l o × MatchOpt
 pub record LineRead {A : Type 0} (Answers : List ℕ → Option A → Type 0) (n : ℕ) (ls : List (List ℕ)) (r : Outcome A) : Type 0 where
   pub first : FirstRead Answers n ls r
 
--- The first of some lines, which has number n, is to spell a value; so on with that and the lines behind it.
-abbrev pub Field : {A H : Type 0} → ℕ → (List ℕ → A → Type 0) → List (List ℕ) → Outcome H → (A → List (List ℕ) → Type 0) → Type 0
-Field n Spells [] r Next = r ≡ Err (bad_line n)
-Field {A} n Spells (l ∷ ls) r Next = (o : Option A) × Reads Spells l o × MatchOption o (r ≡ Err (bad_line n)) (λ a. Next a ls)
+-- A reader that answers so is to have a value at the first of some lines, which e refuses; so on with that and the lines behind it.
+abbrev pub FieldBy : {A R E : Type 0} → E → (List ℕ → Option A → Type 0) → List (List ℕ) → Result R E → (A → List (List ℕ) → Type 0) → Type 0
+FieldBy e Answers [] r Next = r ≡ Err e
+FieldBy {A} e Answers (l ∷ ls) r Next = (o : Option A) × Answers l o × MatchOption o (r ≡ Err e) (λ a. Next a ls)
+
+-- The first of some lines, which e refuses, is to spell a value; so on with that and the lines behind it.
+abbrev pub Field : {A R E : Type 0} → E → (List ℕ → A → Type 0) → List (List ℕ) → Result R E → (A → List (List ℕ) → Type 0) → Type 0
+Field e Spells ls r Next = FieldBy e (Reads Spells) ls r Next
 
 -- All values are there, and these lines are left.
-abbrev pub Complete : {K : Type 0} → Header K → List (List ℕ) → Outcome (Header K) → Type 0
+abbrev pub Complete : {K E : Type 0} → Header K → List (List ℕ) → Result (Header K × Bor (List ℕ)) E → Type 0
 Complete h ls (Ok p) = (p.0 ≡ h) × (lines_of p.1.now ≡ ls)
 Complete h ls (Err e) = ⊥
 
--- The header: levels, slots, suite, key and fuse, in this order, a line each.
-abbrev pub HeaderRead : {K : Type 0} → List (ℕ × K) → List (List ℕ) → Outcome (Header K) → Type 0
-HeaderRead suites ls r =
-    Field 1 (After (codes "levels=") Decimal) ls r (λ levels ls₁.
-    Field 2 (After (codes "slots=") Decimal) ls₁ r (λ slots ls₂.
-    Field 3 (SuiteLine suites) ls₂ r (λ suite ls₃.
-    Field 4 (After (codes "key=") Keys) ls₃ r (λ keys ls₄.
-    Field 5 (After (codes "fuse=") Limit) ls₄ r (λ fuse ls₅.
+-- The header: levels, slots, suite, key and fuse, in this order, a line each. A reader that answers so reads the suite's line, and line n is refused by `refusal n`.
+abbrev pub HeaderBy : {K E : Type 0} → (ℕ → E) → (List ℕ → Option K → Type 0) → List (List ℕ) → Result (Header K × Bor (List ℕ)) E → Type 0
+HeaderBy refusal Suite ls r =
+    Field (refusal 1) (After (codes "levels=") Decimal) ls r (λ levels ls₁.
+    Field (refusal 2) (After (codes "slots=") Decimal) ls₁ r (λ slots ls₂.
+    FieldBy (refusal 3) Suite ls₂ r (λ suite ls₃.
+    Field (refusal 4) (After (codes "key=") Keys) ls₃ r (λ keys ls₄.
+    Field (refusal 5) (After (codes "fuse=") Limit) ls₄ r (λ fuse ls₅.
     Complete (record { levels = levels; slots = slots; suite = suite; keys = keys; fuse = fuse }) ls₅ r)))))
+
+-- The header with the number of its suite, refused with the number of a line.
+abbrev pub HeaderRead : List ℕ → List (List ℕ) → Result (Header ℕ × Bor (List ℕ)) ℕ → Type 0
+HeaderRead suites ls r = HeaderBy (λ n. n) (Reads (SuiteLine suites)) ls r
+
+-- The header with what stands beside the number of its suite.
+abbrev pub HeaderReadAs : {K : Type 0} → List (ℕ × K) → List (List ℕ) → Outcome (Header K) → Type 0
+HeaderReadAs suites ls r = HeaderBy bad_line (Reads (SuiteLineAs suites)) ls r
 
 -- The words of a row, in the order of its columns.
 abbrev pub columns : Row → List ℕ

@@ -3,7 +3,7 @@ ghost use Rattle.std.specs.Option.{option_map};
 ghost use Rattle.std.specs.List.{find};
 ghost use Rattle.text.specs.Spelling.{Reads, After, lines_of};
 ghost use Rattle.std.specs.Fn.{FnReturnsAt};
-ghost use Rattle.script.specs.Script.{Limit, SuiteLine, LineRead, HeaderRead};
+ghost use Rattle.script.specs.Script.{Limit, SuiteLine, SuiteLineAs, LineRead, bad_line, HeaderBy, HeaderRead, HeaderReadAs};
 
 use crate::step::read_limit;
 use crate::types::Header;
@@ -17,9 +17,21 @@ fn find_suite<K>(suites: &[(u64, K)], wanted: u64) -> Option<&(u64, K)>
     suites.iter().find(|(number, _)| *number == wanted)
 }
 
-// A suite that is at hand.
-fn read_suite<K: Copy>(line: &[u8], suites: &[(u64, K)]) -> Option<K>
+// The number of a suite that is at hand.
+fn read_suite(line: &[u8], suites: &[u64]) -> Option<u64>
     ensures { Reads (SuiteLine suites.now) line.now result }
+{
+    let suite = number_after(line, b"suite=")?;
+    if suites.contains(&suite) {
+        Some(suite)
+    } else {
+        None
+    }
+}
+
+// A suite that is at hand, by what stands beside its number.
+fn read_suite_as<K: Copy>(line: &[u8], suites: &[(u64, K)]) -> Option<K>
+    ensures { Reads (SuiteLineAs suites.now) line.now result }
 {
     let (_, suite) = find_suite(suites, number_after(line, b"suite=")?)?;
     Some(*suite)
@@ -46,17 +58,18 @@ fn read_line<T, F: Fn(&[u8]) -> Option<T>>(
     Ok((value, rest))
 }
 
-// The header, and the text behind it; or the number of its first line that is missing or unreadable. A suite that is
-// not among those at hand is unreadable.
-pub fn read_header<'a, K: Copy>(
-    text: &'a [u8],
-    suites: &[(u64, K)],
-) -> Result<(Header<K>, &'a [u8]), BadLine>
-    ensures { HeaderRead suites.now (lines_of text.now) result }
+// The header, whose suite this function reads from its line, and the text behind it; or the number of its first line
+// that is missing or unreadable.
+fn read_lines<K: Copy, F: Fn(&[u8]) -> Option<K>>(
+    text: &[u8],
+    suite_line: F,
+) -> Result<(Header<K>, &[u8]), BadLine>
+    requires { F.IsAlwaysCallable suite_line }
+    ensures { HeaderBy bad_line (FnReturnsAt F.Fn suite_line) (lines_of text.now) result }
 {
     let (levels, rest) = read_line(text, 1, |line| number_after(line, b"levels="))?;
     let (slots, rest) = read_line(rest, 2, |line| number_after(line, b"slots="))?;
-    let (suite, rest) = read_line(rest, 3, |line| read_suite(line, suites))?;
+    let (suite, rest) = read_line(rest, 3, suite_line)?;
     let (keys, rest) = read_line(rest, 4, key_line)?;
     let (fuse, rest) = read_line(rest, 5, read_fuse)?;
     Ok((
@@ -69,4 +82,22 @@ pub fn read_header<'a, K: Copy>(
         },
         rest,
     ))
+}
+
+// The header, and the text behind it; or the number of its first line that is missing or unreadable. A suite that is
+// not among those at hand is unreadable.
+pub fn read_header<'a>(text: &'a [u8], suites: &[u64]) -> Result<(Header, &'a [u8]), u64>
+    ensures { HeaderRead suites.now (lines_of text.now) result }
+{
+    read_lines(text, |line| read_suite(line, suites)).map_err(|bad| bad.number)
+}
+
+// The same, where the header holds what stands beside the number of its suite.
+pub fn read_header_as<'a, K: Copy>(
+    text: &'a [u8],
+    suites: &[(u64, K)],
+) -> Result<(Header<K>, &'a [u8]), BadLine>
+    ensures { HeaderReadAs suites.now (lines_of text.now) result }
+{
+    read_lines(text, |line| read_suite_as(line, suites))
 }

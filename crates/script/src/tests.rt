@@ -1,4 +1,4 @@
-use crate::header::read_header;
+use crate::header::{read_header, read_header_as};
 use crate::step::read_step;
 use crate::types::{Row, Step};
 use std::test::Fail;
@@ -46,8 +46,6 @@ fn steps(rt: HostRuntime) {
     }
 }
 
-static SUITES: [(u64, u64); 2] = [(1, 1), (2, 2)];
-
 // Headers, and the number of the first line that is missing or unreadable.
 static HEADERS: [(&[u8], u64); 7] = [
     (b"", 1),
@@ -68,14 +66,42 @@ static HEADERS: [(&[u8], u64); 7] = [
 #[test]
 fn headers(rt: HostRuntime) -> Result<(), Fail> {
     for (text, expected) in &HEADERS {
-        match read_header(text, &SUITES) {
+        match read_header(text, &[1, 2]) {
+            Ok(_) => return Err(Fail::new("a bad header was read")),
+            Err(line) => assert_eq!(rt; line, *expected),
+        }
+    }
+    let text =
+        b"levels=3\nslots=64\nsuite=2\nkey=000102030405060708090a0b0c0d0e0f101112131415161718191A1B1C1D1E1F\nfuse=none\nstep=s";
+    match read_header(text, &[1, 2]) {
+        Ok((header, rest)) => {
+            assert_eq!(rt; header.levels, 3);
+            assert_eq!(rt; header.slots, 64);
+            assert_eq!(rt; header.suite, 2);
+            assert_eq!(rt; header.keys.mac[15], 15);
+            assert_eq!(rt; header.keys.pad[15], 31);
+            assert_eq!(rt; header.fuse, None);
+            assert_eq!(rt; rest, b"step=s".as_slice());
+            Ok(())
+        }
+        Err(_) => Err(Fail::new("a header was not read")),
+    }
+}
+
+// The suites at hand, each number beside itself.
+static SUITES: [(u64, u64); 2] = [(1, 1), (2, 2)];
+
+#[test]
+fn headers_as(rt: HostRuntime) -> Result<(), Fail> {
+    for (text, expected) in &HEADERS {
+        match read_header_as(text, &SUITES) {
             Ok(_) => return Err(Fail::new("a bad header was read")),
             Err(line) => assert_eq!(rt; line, BadLine { number: *expected }),
         }
     }
     let text =
         b"levels=3\nslots=64\nsuite=2\nkey=000102030405060708090a0b0c0d0e0f101112131415161718191A1B1C1D1E1F\nfuse=none\nstep=s";
-    match read_header(text, &SUITES) {
+    match read_header_as(text, &SUITES) {
         Ok((header, rest)) => {
             assert_eq!(rt; header.levels, 3);
             assert_eq!(rt; header.slots, 64);

@@ -1,8 +1,9 @@
 use text::types::KeyPair;
 
-// What a script sets up before its steps. K is what the caller names its suites by. A fuse of none never burns out.
+// What a script sets up before its steps. K is what the caller names its suites by: their numbers, unless it says
+// otherwise. A fuse of none never burns out.
 #[derive(Clone, Copy)]
-pub struct Header<K> {
+pub struct Header<K = u64> {
     pub levels: u64,
     pub slots: u64,
     pub suite: K,
