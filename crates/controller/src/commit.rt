@@ -112,7 +112,7 @@ impl<B: Board, S: Suite> Open<B, S> {
         put_commit(&mut register, slots.sum(), &entry, &slots.dirty_map());
         at_line(self.board.write_register(register), at)?;
         *commits += 1;
-        Ok(at_line(self.board.write_line(at, line), at)?)
+        Ok(at_line(self.board.write_line(at, entry.line), at)?)
     }
 
     // Commits a body at line `at` under its next counter.

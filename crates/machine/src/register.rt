@@ -1,5 +1,5 @@
 // The register's 32 words and its named fields.
-ghost use Rattle.std.specs.Prelude.{◌≡◌, ℕ, ◌+◌, ◌%◌, ◌<◌, ◌≤◌, ◌++◌, length, take, drop, slice_set};
+ghost use Rattle.std.specs.Prelude.{◌≡◌, ℕ, ◌+◌, ◌%◌, ◌<◌, ◌≤◌, ◌++◌, length, take, drop, slice_set, Some};
 ghost use Rattle.machine.specs.Words.{row, no_address, register_in, words_of};
 ghost use Rattle.machine.specs.Encoding.{encoded, decoded, journal_decoded, with_journal, with_commit, with_counter, committed, said, Real, EightWords, register_meant};
 
@@ -42,6 +42,16 @@ fn journal_in(words: &[u64; 32]) -> Option<Journal>
     }
 }
 
+// Puts a journal's entry in its place.
+fn put_entry(words: &mut [u64; 32], entry: &Journal)
+    ensures is { words.new ≡ with_journal words.old (Some entry.now) }
+    ensures long { EightWords (Some entry.now) }
+{
+    words[12] = entry.at;
+    words[21] = entry.line.tag;
+    put(words, 13, &entry.line.body);
+}
+
 // Puts a journal in its place.
 fn put_journal(words: &mut [u64; 32], journal: &Option<Journal>)
     ensures is { words.new ≡ with_journal words.old journal.now }
@@ -49,11 +59,7 @@ fn put_journal(words: &mut [u64; 32], journal: &Option<Journal>)
 {
     match journal {
         None => words[12] = NO_ADDRESS,
-        Some(entry) => {
-            words[12] = entry.at;
-            words[21] = entry.line.tag;
-            put(words, 13, &entry.line.body);
-        }
+        Some(entry) => put_entry(words, entry),
     }
 }
 
@@ -72,7 +78,7 @@ pub fn put_commit(words: &mut [u64; 32], dirty_sum: u64, entry: &Journal, dirty:
     ensures meaning { (entry.now.at ≡ no_address → ⊥) → register_in words.new ≡ committed (register_in words.old) dirty_sum entry.now dirty.now }
 {
     words[11] = dirty_sum;
-    put_journal(words, &Some(*entry));
+    put_entry(words, entry);
     put(words, 22, dirty);
 }
 
