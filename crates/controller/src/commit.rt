@@ -40,7 +40,7 @@ pub(crate) fn sealed_line<S: Suite>(
 }
 
 // Raises the counter of line `at`: in its parent's slot, or in the register's words.
-// It takes the board and the slots apart, since only the slots change.
+// It takes the board and the slots apart, since the board stays as it is.
 fn raise_at<B: Board>(
     board: &B,
     slots: &mut Slots,

@@ -17,7 +17,7 @@ fn find_suite<K>(suites: &[(u64, K)], wanted: u64) -> Option<&(u64, K)>
     suites.iter().find(|(number, _)| *number == wanted)
 }
 
-// The number of a suite that is at hand.
+// The number of a suite that is at hand: numbers, since a caller that holds a list of them cannot make pairs where nothing is allocated.
 fn read_suite(line: &[u8], suites: &[u64]) -> Option<u64>
     ensures { Reads (SuiteLine suites.now) line.now result }
 {
